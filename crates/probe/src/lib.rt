@@ -1,0 +1,90 @@
+// Doors to the parts that serve inside, as C functions: oracle/ holds them against the Rust at scale, and
+// the program `vectors` replays recorded answers through them. Where there is no answer a door gives
+// 2^32 and the refusal's number, or 2^32 alone.
+ghost use mathlib.Core.Path.{_≡_};
+ghost use Rattle.util.specs.SplitMix.{firstOutput};
+ghost use Rattle.util.specs.Gray.{grayOf};
+ghost use Rattle.frame.specs.Format.{formatOf};
+ghost use Rattle.frame.specs.Air.{hopOf, scrambleOf, symScrambleOf};
+
+#[no_mangle]
+pub extern "C" fn probe_mix64(seed: u64) -> u64
+    ensures { λ r. ⌜ r ≡ firstOutput seed ⌝ }
+{
+    util::mix64(seed)
+}
+
+#[no_mangle]
+pub extern "C" fn probe_gray(v: u64) -> u64
+    ensures { λ r. ⌜ r ≡ grayOf v ⌝ }
+{
+    util::gray(v)
+}
+
+#[no_mangle]
+pub extern "C" fn probe_hop(mode: u8, i: u64) -> u64
+    ensures { λ r. ⌜ r ≡ hopOf (formatOf mode .bins) i ⌝ }
+{
+    frame::hop(mode, i)
+}
+
+#[no_mangle]
+pub extern "C" fn probe_scramble(p: u64) -> u64
+    ensures { λ r. ⌜ r ≡ scrambleOf p ⌝ }
+{
+    frame::scramble(p)
+}
+
+#[no_mangle]
+pub extern "C" fn probe_sym_scramble(p: u64) -> u64
+    ensures { λ r. ⌜ r ≡ symScrambleOf p ⌝ }
+{
+    frame::sym_scramble(p)
+}
+
+#[no_mangle]
+pub extern "C" fn probe_header_slot(kind: u8, j: u64) -> u64 {
+    if j < frame::header_symbols(kind) {
+        frame::header_slot(kind, j)
+    } else {
+        0x1_0000_0000
+    }
+}
+
+#[no_mangle]
+pub extern "C" fn probe_bins(mode: u8) -> u64
+    ensures { λ r. ⌜ r ≡ formatOf mode .bins ⌝ }
+{
+    frame::bins(mode)
+}
+
+#[no_mangle]
+pub extern "C" fn probe_symbol(mode: u8) -> u64
+    ensures { λ r. ⌜ r ≡ formatOf mode .symbol ⌝ }
+{
+    frame::symbol(mode) as u64
+}
+
+// 1 where the window is one of the mode's, else 0.
+#[no_mangle]
+pub extern "C" fn probe_has_window(mode: u8, window: u32) -> u64 {
+    frame::has_window(mode, window) as u64
+}
+
+// The multiplier, or 2^32 and the refusal's number.
+#[no_mangle]
+pub extern "C" fn probe_mult(n: u64) -> u64 {
+    match util::interleave_mult(n) {
+        util::Multiplier::Factor(a) => a,
+        util::Multiplier::Refused(k) => 0x1_0000_0000 + (k as u64),
+    }
+}
+
+// The CRC, or 2^32 and the refusal's number.
+#[no_mangle]
+pub extern "C" fn probe_crc(mode: u8, kind: u8, bits: &[u8]) -> u64 {
+    match frame::crc(mode, kind, bits) {
+        frame::Crc16::Value(crc) => crc as u64,
+        frame::Crc16::Refused(k) => 0x1_0000_0000 + (k as u64),
+    }
+}

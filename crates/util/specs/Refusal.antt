@@ -1,0 +1,32 @@
+-- Document 01, 'When nothing is done': what a public entry answers.
+use Prim.Native.Nat.{ℕ}
+use mathlib.Core.Bool.{Bool, true, false}
+use mathlib.Core.List.{List, [], _∷_}
+use lib.Dec.{eqb}
+use Rattle.util.specs.Choose.{choose}
+
+-- a line of the table: whether its cause is there, and its number
+pub record Cause : Type 0 where
+  pub holds : Bool
+  pub number : ℕ
+
+-- an entry returns a refusal's number and nothing else, or its result
+pub data Outcome (A : Type 0) : Type 0 where
+  refused : ℕ → Outcome A
+  accepted : A → Outcome A
+
+-- of the causes in the entry's order the first that holds; the result where none does
+abbrev pub outcome : {A : Type 0} → List Cause → A → Outcome A
+outcome [] a = accepted a
+outcome (c ∷ cs) a = choose (c .holds) (refused (c .number)) (outcome cs a)
+
+-- 'Of several, the lowest number': the order in which causes come before each other, for every entry
+abbrev pub precedence : List ℕ
+precedence = 1 ∷ 2 ∷ 3 ∷ 4 ∷ 5 ∷ 6 ∷ 7 ∷ 8 ∷ 9 ∷ 10 ∷ []
+
+-- the causes' numbers stand in that order, none twice: each is found in what is left of the order after the one before
+abbrev pub inOrder : List ℕ → List Cause → Bool
+inOrder [] [] = true
+inOrder [] (c ∷ cs) = false
+inOrder (k ∷ ks) [] = true
+inOrder (k ∷ ks) (c ∷ cs) = choose (eqb k (c .number)) (inOrder ks cs) (inOrder ks (c ∷ cs))

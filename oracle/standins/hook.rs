@@ -1,0 +1,129 @@
+// Child of phy_mfsk::rx::data, so it sees the private items of all its ancestors. No rule is restated here:
+// each function calls the Rust's item, or includes lines cut from the Rust's files (gen_*.rs, made by make.sh).
+use super::super::model::{self, Params, local_noise};
+use super::super::{Active, EXT, Energies, LLR_MAX, MfskRx, NE, gi};
+use super::{METRIC_FLOOR, TBLOCK, TD};
+use crate::fec::conv::ConvCode;
+pub use crate::phy_mfsk::MfskMode;
+pub use crate::phy_mfsk::frame::{Fmt, Kind};
+use crate::phy_mfsk::{SYM, conv, frame};
+pub mod air {
+    pub use crate::phy_mfsk::conv::*;
+    pub use crate::phy_mfsk::frame::*;
+    pub use crate::phy_mfsk::util::*;
+}
+use ion_dsp::dsp::Complex;
+pub type Terms = [[f32; NE]; 5];
+
+pub fn metric(t: &Terms, e: usize) -> f32 {
+    model::metric(t, e)
+}
+pub fn fit_drift(b: &[(f64, f64)], sym: usize) -> f64 {
+    super::fit_drift(b, sym)
+}
+pub fn windows(mode: MfskMode) -> [usize; 3] {
+    super::super::Grid::new(mode).wins
+}
+pub fn code() -> ConvCode {
+    ConvCode::new(conv::K, &conv::GEN)
+}
+/// decode_tb with 3 passes over terms: 260 f32 a header symbol. The joining of `metric`, `hop`, `tone_bin` and `header_slot`
+/// is acquire.rs's (line cited in the README), all of it calls of the Rust's functions.
+pub fn decode_terms(c: &ConvCode, mode: MfskMode, kind: Kind, terms: &[Terms]) -> (Vec<u8>, f32) {
+    let fmt = Fmt::of(mode);
+    let steps = frame::header_steps(fmt, kind);
+    c.decode_tb(steps, 3, &mut |j, m| {
+        let slot = frame::header_slot(fmt, kind, j);
+        let h = fmt.hop(slot);
+        for (v, o) in m.iter_mut().enumerate() {
+            *o = metric(&terms[slot], fmt.tone_bin(h, 0, v) + EXT);
+        }
+    })
+}
+
+/// A tracker as `Active` holds it; everything but the drift fields and the given ones is empty.
+fn active(mode: MfskMode, symbols: bool, hsyms: usize, dsyms: usize, nbits: usize, w: usize, params: Params) -> Active {
+    Active {
+        mode, cue: false, symbols, user: 0, extra: 0, nbits, hsyms, dsyms, t0c: 0, d: 0, w, f: 0.0, f_sum: 0.0, params,
+        next: 0, energies: Vec::new(), acc: Complex::ZERO, mag: 0.0, coh: Complex::ZERO, coh_p: [0.0; 2], coh_n: 0.0,
+        prev_e: None, isi: [[0.0; 2]; 2], snr_db: 0.0, start_sample: 0, dref: 0, shifts: Vec::new(), shift: 0, tnum: 0.0,
+        tden: 0.0, tcnt: 0, blocks: Vec::new(), drift: 0.0, blanked: Vec::new(),
+    }
+}
+fn some_params() -> Params {
+    model::estimate(&[[1.0; NE]], &[], NE)
+}
+
+pub struct Tracker(Active, Fmt);
+impl Tracker {
+    pub fn new(mode: MfskMode) -> Self {
+        Tracker(active(mode, false, 0, 0, 0, Fmt::of(mode).sym, some_params()), Fmt::of(mode))
+    }
+    /// (shift, tnum, tden, tcnt, drift) and the blocks.
+    pub fn state(&self) -> (usize, i32, f64, f64, usize, f64) {
+        (self.0.next, self.0.shift, self.0.tnum, self.0.tden, self.0.tcnt, self.0.drift)
+    }
+    pub fn blocks(&self) -> &[(f64, f64)] {
+        &self.0.blocks
+    }
+    pub fn shifts(&self) -> &[i32] {
+        &self.0.shifts
+    }
+    /// One symbol; `heard` = (early, late, noise).
+    pub fn symbol(&mut self, heard: Option<(f64, f64, f64)>) {
+        let fmt = self.1;
+        let b = &mut self.0;
+        include!("gen_push.rs"); // data.rs 103 and 105
+        track(b, fmt, heard);
+    }
+}
+fn track(b: &mut Active, fmt: Fmt, heard: Option<(f64, f64, f64)>) {
+    include!("gen_track.rs");
+}
+
+pub struct Soft {
+    pub llrs: Vec<f32>,
+    pub metrics: Vec<f32>,
+}
+/// The second half of service_burst, whole and unchanged, from energies (its first half is skipped: next = dsyms).
+/// Returns the terms that it made of the energies as well, so that the port can be given them.
+pub fn soft_energies(rx: &mut MfskRx, mode: MfskMode, symbols: bool, hsyms: usize, nbits: usize, e: &[[f32; NE]], blanked: &[f32], p: &ParamsBox) -> (Soft, Vec<Terms>) {
+    let fmt = Fmt::of(mode);
+    let mut b = active(mode, symbols, hsyms, e.len(), nbits, fmt.win, p.0);
+    b.next = e.len();
+    b.energies = e.to_vec();
+    b.blanked = blanked.to_vec();
+    let local = local_noise(&b.energies, &b.params, fmt, hsyms);
+    let terms = e.iter().zip(&local).map(|(x, k)| b.params.terms_local(x, k)).collect();
+    let mut out = Vec::new();
+    assert!(rx.service_burst(&mut b, &mut out));
+    let o = out.pop().unwrap();
+    (Soft { llrs: o.llrs, metrics: o.metrics }, terms)
+}
+pub struct ParamsBox(Params);
+impl ParamsBox {
+    /// A model fitted by `estimate` to symbols with known tones.
+    pub fn fitted(e: &[[f32; NE]], mode: MfskMode) -> Self {
+        ParamsBox(model::estimate(e, &MfskRx::preamble_known()[..e.len().min(16)], NE))
+    }
+}
+/// The same half from terms: data.rs 129 to 191 with three lines changed by make.sh (the loop's head, `tm`, and the fading sums out).
+pub fn soft_terms(mode: MfskMode, symbols: bool, hsyms: usize, nbits: usize, terms: &[Terms], blanked: &[f32]) -> Soft {
+    let fmt = Fmt::of(mode);
+    let mut b = active(mode, symbols, hsyms, terms.len(), nbits, fmt.win, some_params());
+    b.blanked = blanked.to_vec();
+    let b = &mut b;
+    use super::{BLANK_ERASE, lse, metric};
+    let mut metrics = Vec::new();
+    let llrs = if b.dsyms == 0 {
+        Vec::new()
+    } else {
+        include!("gen_soft.rs")
+    };
+    Soft { llrs, metrics }
+}
+/// `blanked_frac` cannot be reached without the ring; its last two lines (rx.rs), at layout `k`.
+pub fn blanked_frac(s: u32, w: usize, k: usize) -> f32 {
+    let layout = crate::phy_mfsk::MfskLayout::scaled(k);
+    include!("gen_frac.rs")
+}
