@@ -1,6 +1,7 @@
 // Holds the proved parts against the Rust, exhaustively where that is possible, and prints counts.
 // A section that differs prints its smallest input, and the run ends with status 1.
 use ion::phy_mfsk::hook::{Fmt, Kind, MfskMode, air, windows};
+mod sent;
 
 // A lent slice is two arguments, its first element and its length.
 unsafe extern "C" {
@@ -176,5 +177,6 @@ fn main() {
     formats(&mut wrong);
     air_order(&mut wrong);
     numbers(&mut wrong);
+    sent::all(&mut wrong);
     std::process::exit(wrong as i32);
 }

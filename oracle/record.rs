@@ -36,6 +36,18 @@ fn main() {
             put(8, k as u64 | (j as u64) << 8, air::header_slot(Fmt::of(MfskMode::R0), kind, j) as u64);
         }
     }
+    for (m, mode) in [MfskMode::R0, MfskMode::R1].into_iter().enumerate() {
+        for (k, kind) in [Kind::HeaderOnly, Kind::Data, Kind::Cue].into_iter().enumerate() {
+            let n = air::header_info_bits(kind);
+            for word in [0, u64::MAX, 1, 1 << (n - 1)].into_iter().chain((0..12).map(air::mix64)) {
+                let bits: Vec<u8> = (0..n).map(|j| (word >> j & 1) as u8).collect();
+                for (part, slots) in air::header_values(mode, kind, &bits).chunks(8).enumerate() {
+                    let values = slots.iter().rev().fold(0, |v, s| v << 8 | s[0] as u64);
+                    put((16 + part + 8 * (k + 3 * m)) as u8, word, values);
+                }
+            }
+        }
+    }
     for p in (0..256).chain([2047, 2048, 10_239]) {
         put(4, p, air::scramble(p as usize) as u64);
         put(5, p, air::sym_scramble(p as usize) as u64);

@@ -88,3 +88,12 @@ pub extern "C" fn probe_crc(mode: u8, kind: u8, bits: &[u8]) -> u64 {
         frame::Crc16::Refused(k) => 0x1_0000_0000 + (k as u64),
     }
 }
+
+// 0 where the header's values were written, or 2^32 and the refusal's number.
+#[no_mangle]
+pub extern "C" fn probe_header_values(mode: u8, kind: u8, bits: &[u8], values: &mut [u8]) -> u64 {
+    match conv::header_values(mode, kind, bits, values) {
+        conv::Sent::Done => 0,
+        conv::Sent::Refused(k) => 0x1_0000_0000 + (k as u64),
+    }
+}

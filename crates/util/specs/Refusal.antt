@@ -20,6 +20,11 @@ abbrev pub outcome : {A : Type 0} → List Cause → A → Outcome A
 outcome [] a = accepted a
 outcome (c ∷ cs) a = choose (c .holds) (refused (c .number)) (outcome cs a)
 
+-- what is lent, at exit: as it was on a refusal, else what the entry makes of it
+abbrev pub afterwards : {A B : Type 0} → Outcome A → B → B → B
+afterwards (refused k) was new = was
+afterwards (accepted a) was new = new
+
 -- 'Of several, the lowest number': the order in which causes come before each other, for every entry
 abbrev pub precedence : List ℕ
 precedence = 1 ∷ 2 ∷ 3 ∷ 4 ∷ 5 ∷ 6 ∷ 7 ∷ 8 ∷ 9 ∷ 10 ∷ []

@@ -24,13 +24,13 @@ fn word(s: &[u8], at: usize) -> u64
     v
 }
 
-// The lowest 32 bits, a byte each, the lowest first.
-fn bits_of(x: u64) -> [u8; 32]
-    ensures { λ r. ⌜ 32 ≡ length r ⌝ }
+// The 64 bits, a byte each, the lowest first.
+fn bits_of(x: u64) -> [u8; 64]
+    ensures { λ r. ⌜ 64 ≡ length r ⌝ }
 {
-    let mut out = [0u8; 32];
+    let mut out = [0u8; 64];
     let mut rest = x;
-    for k in 0..32 {
+    for k in 0..64 {
         out[k] = (rest % 2) as u8;
         rest = rest / 2;
     }
@@ -47,6 +47,37 @@ fn crc(asked: u64) -> u64 {
     probe::probe_crc((asked % 256) as u8, ((asked >> 8) % 256) as u8, &bits[..n])
 }
 
+// A header's values in the eight slots from `at`.
+fn sent(mode: u8, kind: u8, bits: &[u8], values: &mut [u8], at: usize) -> u64
+    requires { ⌜ at + 8 ≤ length (now values) ⌝ }
+{
+    let refused = probe::probe_header_values(mode, kind, bits, values);
+    if refused != 0 {
+        return refused;
+    }
+    word(values, at)
+}
+
+// The same by a record: what is 16 + part + 8·(kind + 3·mode), with eight slots a part.
+fn header(what: u8, asked: u64) -> u64 {
+    if what < 16 {
+        return 0x1_0000_0000;
+    }
+    let rest = what - 16;
+    let kind = rest / 8 % 3;
+    let at = ((rest % 8) as usize) * 8;
+    let bits = bits_of(asked);
+    let mut values = [0u8; 64];
+    if kind == 1 {
+        return sent(rest / 24, kind, &bits, &mut values, at);
+    }
+    if at < 48 {
+        sent(rest / 24, kind, &bits[..48], &mut values[..48], at)
+    } else {
+        0x1_0000_0000
+    }
+}
+
 fn answer(what: u8, asked: u64) -> u64 {
     match what {
         0 => probe::probe_mult(asked),
@@ -61,7 +92,7 @@ fn answer(what: u8, asked: u64) -> u64 {
         9 => probe::probe_symbol((asked % 256) as u8),
         10 => probe::probe_bins((asked % 256) as u8),
         11 => probe::probe_has_window((asked % 256) as u8, ((asked >> 8) % 65536) as u32),
-        _ => 0x1_0000_0000,
+        _ => header(what, asked),
     }
 }
 
@@ -99,6 +130,7 @@ fn agreeing(s: &[u8]) -> u64 {
 fn main() {
     let mut buffer = io::large_buffer();
     let n = io::read_full(STDIN_FILENO, &mut buffer);
+    let same = agreeing(&buffer[..n]);
     say::text(b"answers of the Rust replayed: ");
-    say::tally(agreeing(&buffer[..n]), n / RECORD);
+    say::tally(same, n / RECORD);
 }
