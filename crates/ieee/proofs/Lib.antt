@@ -1,0 +1,223 @@
+-- What f32 and f64 arithmetic is allowed to be believed: laws over the toolchain's account of IEEE 754 (lib.Ieee), for either format f and for any bound. prec f is 24 for f32 and 53 for f64.
+-- The words are in specs/: `Whole x z` (the float x is the integer z), `run` (a sum from the left), `Within l h x`, `larger`, `clamp`, `Upto n k x` (|x| ≤ n * 2 ^ k), `Least b x` (2 ^ -b ≤ |x|),
+-- `Grid j x` (a multiple of 2 ^ -j), `Score f n k x` (a value of f, bounded, not -0.0). `Samples` has the laws at work. Each law by its module, with its statement and what it is for:
+--
+-- 1. Whole numbers are exact
+-- Sums.add-whole : (f : Format) {x y : Float} {a b : ℤ} → Whole x a → Whole y b → natAbs (a +ℤ b) ≤ 2 ^ prec f → Whole (add f x y) (a +ℤ b)
+--     a sum of whole floats is the integers' while that is within 2 ^ prec: the search's scores
+-- Sums.sub-whole : (f : Format) {x y : Float} {a b : ℤ} → Whole x a → Whole y b → natAbs (a -ℤ b) ≤ 2 ^ prec f → Whole (sub f x y) (a -ℤ b)
+--     the same of a difference: scores lowered by the best, gains
+-- Sums.neg-whole : {x : Float} {a : ℤ} → Whole x a → Whole (neg x) (negℤ a)
+--     the other sign, which loses nothing
+-- Sums.lt-whole : {x y : Float} {a b : ℤ} → Whole x a → Whole y b → lt x y ≡ ltZ a b
+--     every decision `a > b` over whole floats is that of the integers
+-- Sums.le-whole : {x y : Float} {a b : ℤ} → Whole x a → Whole y b → le x y ≡ leZ a b
+--     `<=` over whole floats is that of the integers
+-- Sums.whole-zero : Whole plusZero (pos 0)
+--     where a sum of whole numbers starts
+-- Sums.whole-finite : {x : Float} {a : ℤ} → Whole x a → T (finite x)
+--     a whole float is finite
+-- Sums.whole-once : {x : Float} {a b : ℤ} → Whole x a → Whole x b → a ≡ b
+--     a float is one whole number at most
+-- Values.equal : (f : Format) (x y : Float) → T (fits f x) → T (fits f y) → T (not (isZero true x)) → T (not (isZero true y)) → T (eq x y) → x ≡ y
+--     floats of a format that Rust's `==` holds equal are one value, the two zeros apart; so ties do not matter
+-- Values.equal-whole : (f : Format) {x y : Float} {z : ℤ} → T (fits f x) → T (fits f y) → T (not (isZero true x)) → T (not (isZero true y)) → Whole x z → Whole y z → x ≡ y
+--     two floats of the same whole number, neither -0.0, are one value
+-- Values.whole-is : (f : Format) {x : Float} {z : ℤ} → T (fits f x) → T (not (isZero true x)) → Whole x z → natAbs z ≤ 2 ^ prec f → x ≡ ofInt f z
+--     so a whole float that is not -0.0 is the integer's own float
+-- Values.add-ofInt : (f : Format) {y : Float} (a : ℤ) {b : ℤ} → natAbs a ≤ 2 ^ prec f → Whole y b → natAbs (a +ℤ b) ≤ 2 ^ prec f → add f (ofInt f a) y ≡ ofInt f (a +ℤ b)
+--     a sum that starts from an integer's float is an integer's float: an invariant carries one equation
+-- Values.sub-ofInt : (f : Format) {y : Float} (a : ℤ) {b : ℤ} → natAbs a ≤ 2 ^ prec f → Whole y b → natAbs (a -ℤ b) ≤ 2 ^ prec f → sub f (ofInt f a) y ≡ ofInt f (a -ℤ b)
+--     a difference that starts from one is one too
+-- Folds.run-whole : (f : Format) (b c : ℕ) (a : ℤ) (x : ℕ → Float) (z : ℕ → ℤ) (n : ℕ) → natAbs a ≤ c → ((i : ℕ) → i < n → Whole (x i) (z i) × (natAbs (z i) ≤ b)) → c + b * n ≤ 2 ^ prec f → (run (add f) (ofInt f a) x n ≡ ofInt f (run _+ℤ_ a z n)) × (natAbs (run _+ℤ_ a z n) ≤ c + b * n)
+--     an n-step sum from any integer's float, exact, with its size
+-- Folds.run-zero : (f : Format) (b : ℕ) (x : ℕ → Float) (z : ℕ → ℤ) (n : ℕ) → ((i : ℕ) → i < n → Whole (x i) (z i) × (natAbs (z i) ≤ b)) → b * n ≤ 2 ^ prec f → (run (add f) plusZero x n ≡ ofInt f (run _+ℤ_ (pos 0) z n)) × (natAbs (run _+ℤ_ (pos 0) z n) ≤ b * n)
+--     an n-step sum from 0.0: five terms within ±b are within ±5 b; n metrics
+-- Integers.abs-add : (x y : ℤ) → natAbs (x +ℤ y) ≤ natAbs x + natAbs y
+--     how large an integer sum is
+-- Integers.abs-sub : (x y : ℤ) → natAbs (x -ℤ y) ≤ natAbs x + natAbs y
+--     how large a difference is: what the bound of a pass is counted by
+--
+-- 2. Intervals (the ends are floats; at literals each test on them is `tt`)
+-- Order.le-refl : (x : Float) → T (not (isNan x)) → T (le x x)
+--     `<=` is reflexive away from NaN
+-- Order.le-trans : (x y z : Float) → T (le x y) → T (le y z) → T (le x z)
+--     `<=` is transitive, infinities included
+-- Order.le-le→eq : (x y : Float) → T (le x y) → T (le y x) → T (eq x y)
+--     `<=` is antisymmetric up to `==`
+-- Order.lt→le : (x y : Float) → T (lt x y) → T (le x y)
+--     the branch that `<` took
+-- Order.not-lt→le : (x y : Float) → T (not (isNan x)) → T (not (isNan y)) → T (not (lt x y)) → T (le y x)
+--     the branch that `<` did not take, away from NaN
+-- Order.le→not-lt : (x y : Float) → T (le x y) → T (not (lt y x))
+--     of two floats at most one is below the other
+-- Order.lt→not-le : (x y : Float) → T (lt x y) → T (not (le y x))
+--     so `<` denies `<=` the other way round
+-- Order.neg-le : (x y : Float) → T (le x y) → T (le (neg y) (neg x))
+--     `-x` turns the order round
+-- Order.not-nan : (x y : Float) → T (le x y) → T (not (isNan x)) × T (not (isNan y))
+--     what was compared is no NaN
+-- Order.finite-not-nan : (x : Float) → T (finite x) → T (not (isNan x))
+--     what is finite is no NaN
+-- Order.above-zero : (x : Float) → T (finite x) → T (not (le x plusZero)) → T (positive x)
+--     a divisor that the test `<= 0.0` let through is positive
+-- Order.positive-num : (x : Float) → T (positive x) → 0 < num x
+--     what is positive is not 0 in size
+-- Rounds.add-mono : (f : Format) (x x' y y' : Float) → T (finite x) → T (finite x') → T (finite y) → T (finite y') → T (le x x') → T (le y y') → T (le (add f x y) (add f x' y'))
+--     a rounded sum grows with each term
+-- Rounds.sub-mono : (f : Format) (x x' y y' : Float) → T (finite x) → T (finite x') → T (finite y) → T (finite y') → T (le x x') → T (le y' y) → T (le (sub f x y) (sub f x' y'))
+--     a difference grows with the first and falls with the second
+-- Rounds.sub-nonpos : (f : Format) (x y : Float) → T (finite x) → T (finite y) → T (le x y) → T (le (sub f x y) plusZero)
+--     a value less a greater one is at most 0.0: the argument of exp
+-- Rounds.mul-mono : (f : Format) (x x' y : Float) → T (finite x) → T (finite x') → T (finite y) → T (le x x') → T (le plusZero y) → T (le (mul f x y) (mul f x' y))
+--     a product grows with a factor where the other is not negative
+-- Rounds.mul-anti : (f : Format) (x x' y : Float) → T (finite x) → T (finite x') → T (finite y) → T (le x x') → T (le y plusZero) → T (le (mul f x' y) (mul f x y))
+--     a product falls with a factor where the other is not positive
+-- Rounds.mul-swap : (f : Format) (x y : Float) → T (finite x) → T (finite y) → mul f x y ≡ mul f y x
+--     a product does not mind the order
+-- Rounds.div-mono : (f : Format) (x x' y : Float) → T (finite x) → T (finite x') → T (positive y) → T (le x x') → T (le (div f x y) (div f x' y))
+--     a quotient by a positive float grows with the dividend
+-- Rounds.div-anti : (f : Format) (x y y' : Float) → T (finite x) → T (positive y) → T (positive y') → T (le y y') → T (le plusZero x) → T (le (div f x y') (div f x y))
+--     a quotient falls with the divisor where the dividend is not negative
+-- Rounds.div-mono-below : (f : Format) (x y y' : Float) → T (finite x) → T (positive y) → T (positive y') → T (le y y') → T (le x plusZero) → T (le (div f x y) (div f x y'))
+--     a quotient grows with the divisor where the dividend is not positive
+-- Rounds.add-above : (f : Format) (x y : Float) → T (finite x) → T (finite y) → T (le plusZero x) → T (le plusZero y) → T (le plusZero (add f x y))
+--     a sum of values that are not negative is not: a sum of squares
+-- Rounds.mul-above : (f : Format) (x y : Float) → T (finite x) → T (finite y) → T (le plusZero x) → T (le plusZero y) → T (le plusZero (mul f x y))
+--     nor is their product: a variance times four
+-- Rounds.div-above : (f : Format) (x y : Float) → T (finite x) → T (positive y) → T (le plusZero x) → T (le plusZero (div f x y))
+--     nor their quotient by a positive float: the variance itself
+-- Rounds.square-above : (f : Format) (x : Float) → T (finite x) → T (le plusZero (mul f x x))
+--     nor a square, whatever its sign was
+-- Intervals.within-finite : (l h x : Float) → T (finite l) → T (finite h) → Within l h x → T (finite x)
+--     what lies between finite ends is finite
+-- Intervals.point : (k : Float) → T (le k k) → Within k k k
+--     a literal lies between itself and itself
+-- Intervals.widen : {a b x : Float} (l h : Float) → Within a b x → T (le l a && le b h) → Within l h x
+--     the ends may be moved apart
+-- Intervals.neg-in : {l h x : Float} → Within l h x → Within (neg h) (neg l) (neg x)
+--     the other sign: a soft bit that a scrambler turns
+-- Intervals.add-in : {a b c d x y : Float} (f : Format) (l h : Float) → Within a b x → Within c d y → T (okAdd f a b c d l h) → Within l h (add f x y)
+--     from the operands' ends to those of the sum: log-sums, the steps of exp and ln_1p
+-- Intervals.sub-in : {a b c d x y : Float} (f : Format) (l h : Float) → Within a b x → Within c d y → T (okSub f a b c d l h) → Within l h (sub f x y)
+--     the same of a difference: the argument of exp, a soft bit
+-- Intervals.mul-in : {a b c d x y : Float} (f : Format) (l h : Float) → Within a b x → Within c d y → T (okMul f a b c d l h) → Within l h (mul f x y)
+--     a product, by the four corners, so for all signs
+-- Intervals.div-in : {a b c d x y : Float} (f : Format) (l h : Float) → Within a b x → Within c d y → T (okDiv f a b c d l h) → Within l h (div f x y)
+--     a quotient by a divisor above zero
+-- Intervals.div-in-below : {a b c d x y : Float} (f : Format) (l h : Float) → T (finite a) → T (finite b) → T (finite c) → T (finite d) → Within a b x → Within c d y → T (okDiv f (neg b) (neg a) (neg d) (neg c) l h) → Within l h (div f x y)
+--     a quotient by a divisor below zero
+-- Intervals.larger-one : (P : Float → Type 0) (x y : Float) → P x → P y → P (larger x y)
+--     the larger of two is one of them
+-- Intervals.larger-above : (x y : Float) → T (not (isNan x)) → T (not (isNan y)) → T (le x (larger x y)) × T (le y (larger x y))
+--     the larger of two is above both: a divisor kept from 0
+-- Intervals.larger-in : {a c h x y : Float} → Within a h x → Within c h y → Within a h (larger x y) × Within c h (larger x y)
+--     the maximum of two bounded values is bounded by both lower ends
+-- Intervals.clamp-in : (l h x : Float) → T (le l h) → T (not (isNan x)) → Within l h (clamp l h x)
+--     clamp: any value that is no NaN, an infinite one too, is held between the ends
+-- Intervals.clamp-low : (l h x : Float) → lt x l ≡ true → clamp l h x ≡ l
+--     the way of the code that returns the lower end: a function's result is `clamp`
+-- Intervals.clamp-high : (l h x : Float) → lt x l ≡ false → lt h x ≡ true → clamp l h x ≡ h
+--     where the upper end is returned
+-- Intervals.clamp-mid : (l h x : Float) → lt x l ≡ false → lt h x ≡ false → clamp l h x ≡ x
+--     where the value itself is
+-- Grids.sub-least : (f : Format) {j : ℕ} {x y : Float} → Grid j x → Grid j y → j ≤ low f → T (finite (sub f x y)) → T (ne x y) → Least j (sub f x y)
+--     the difference of two multiples of 2 ^ -j that differ is at least 2 ^ -j in size: it may be divided by
+--
+-- 3. Magnitudes (|x| ≤ n * 2 ^ k, 2 ^ -b ≤ |x|, and multiples of 2 ^ -j, for a divisor that a sum makes)
+-- Sizes.upto-zero : {k : ℕ} → Upto 0 k plusZero
+--     where a sum starts
+-- Sizes.upto-wider : {a j : ℕ} {x : Float} (b k : ℕ) → Upto a j x → a * 2 ^ j ≤ b * 2 ^ k → Upto b k x
+--     the bound may be widened, and its power changed
+-- Sizes.upto-within : {n k : ℕ} {l h x : Float} → Upto n k l → Upto n k h → Within l h x → Upto n k x
+--     from an interval: accepted input
+-- Sizes.within-upto : {n k : ℕ} {x : Float} → Upto n k x → Within (fin true n (pos k)) (fin false n (pos k)) x
+--     and back to one: the two say the same
+-- Sizes.upto-whole : {x : Float} {z : ℤ} (n k : ℕ) → Whole x z → natAbs z ≤ n * 2 ^ k → Upto n k x
+--     from a whole number: a cast count
+-- Sizes.neg-upto : {n k : ℕ} {x : Float} → Upto n k x → Upto n k (neg x)
+--     the other sign has the same size
+-- Sizes.add-upto : (f : Format) {a b k : ℕ} {x y : Float} → Upto a k x → Upto b k y → a + b < 2 ^ prec f → k + prec f ≤ emax f → Upto (a + b) k (add f x y)
+--     a sum of bounded values is bounded, so no NaN and no infinity: scores, sums of the fit
+-- Sizes.sub-upto : (f : Format) {a b k : ℕ} {x y : Float} → Upto a k x → Upto b k y → a + b < 2 ^ prec f → k + prec f ≤ emax f → Upto (a + b) k (sub f x y)
+--     the same of a difference: a value less its mean
+-- Sizes.mul-upto : (f : Format) {a b j k : ℕ} {x y : Float} → Upto a j x → Upto b k y → a * b < 2 ^ prec f → j + k + prec f ≤ emax f → Upto (a * b) (j + k) (mul f x y)
+--     and of a product: the terms of a sum of squares
+-- Sizes.div-upto : (f : Format) {a b j : ℕ} {x y : Float} → Upto a j x → Least b y → a < 2 ^ prec f → j + b + prec f ≤ emax f → Upto a (j + b) (div f x y)
+--     a quotient by what is at least 2 ^ -b
+-- Sizes.run-upto : (f : Format) (k : ℕ) (x : ℕ → Float) (n : ℕ) → ((i : ℕ) → i < n → Upto 1 k (x i)) → n < 2 ^ prec f → k + prec f ≤ emax f → Upto n k (run (add f) plusZero x n)
+--     an n-step sum from 0.0 is bounded by n times the term
+-- Sizes.run-above : (f : Format) (k : ℕ) (x : ℕ → Float) (n : ℕ) → ((i : ℕ) → i < n → Upto 1 k (x i)) → ((i : ℕ) → i < n → T (le plusZero (x i))) → n < 2 ^ prec f → k + prec f ≤ emax f → T (le plusZero (run (add f) plusZero x n))
+--     an n-step sum of values that are not negative is not: a sum of squares
+-- Sizes.least-whole : {x : Float} {z : ℤ} → Whole x z → 0 < natAbs z → Least 0 x
+--     a whole number that is not 0 is at least 1
+-- Sizes.least-above : {b : ℕ} {l x : Float} → Least b l → T (le plusZero l) → T (le l x) → T (finite x) → Least b x
+--     what is at least a positive bound: `larger` with a literal
+-- Sizes.least-pos : {b : ℕ} {y : Float} → Least b y → 0 < num y
+--     what is at least 2 ^ -b is not 0
+-- Sizes.div-least : (f : Format) {a k : ℕ} {x y : Float} → Least a x → Upto 1 k y → 0 < num y → a + k ≤ low f → T (finite (div f x y)) → Least (a + k) (div f x y)
+--     the quotient of what is not small by what is not large is not small: a mean that is not 0
+-- Grids.grid-whole : {x : Float} {z : ℤ} → Whole x z → Grid 0 x
+--     whole numbers are multiples of 1
+-- Grids.grid-finer : {i : ℕ} {x : Float} (j : ℕ) → Grid i x → i ≤ j → Grid j x
+--     a multiple of 2 ^ -i is one of any smaller power
+-- Grids.grid-fits : (f : Format) (x : Float) → T (fits f x) → T (finite x) → Grid (low f) x
+--     every finite value is a multiple of the format's smallest one
+-- Grids.grid-digits : (f : Format) {b : ℕ} {x : Float} → T (fits f x) → Least b x → Grid (prec f + b) x
+--     a value that is at least 2 ^ -b is a multiple of a larger power, by its digits
+-- Grids.add-grid : (f : Format) {j : ℕ} {x y : Float} → Grid j x → Grid j y → j ≤ low f → T (finite (add f x y)) → Grid j (add f x y)
+--     a rounded sum of multiples is a multiple
+-- Grids.sub-grid : (f : Format) {j : ℕ} {x y : Float} → Grid j x → Grid j y → j ≤ low f → T (finite (sub f x y)) → Grid j (sub f x y)
+--     the same of a difference: a place less the mean of places
+-- Grids.mul-grid : (f : Format) {i j : ℕ} {x y : Float} → Grid i x → Grid j y → i + j ≤ low f → T (finite (mul f x y)) → Grid (i + j) (mul f x y)
+--     a product of multiples is one of the product: its square
+-- Grids.neg-grid : {j : ℕ} {x : Float} → Grid j x → Grid j (neg x)
+--     the other sign is as fine
+-- Grids.div-grid : (f : Format) {i k : ℕ} {x y : Float} → Grid i x → Upto 1 k y → 0 < num y → i + k ≤ low f → T (finite (div f x y)) → Grid (prec f + (i + k)) (div f x y)
+--     a quotient is a multiple of something, if a fine one: a mean
+-- Grids.run-grid : (f : Format) (j k : ℕ) (x : ℕ → Float) (n : ℕ) → ((i : ℕ) → i < n → Grid j (x i)) → ((i : ℕ) → i < n → Upto 1 k (x i)) → n < 2 ^ prec f → k + prec f ≤ emax f → j ≤ low f → Grid j (run (add f) plusZero x n)
+--     an n-step sum of multiples from 0.0: the sum of squares
+-- Grids.least-grid : {j : ℕ} {x : Float} → Grid j x → 0 < num x → Least j x
+--     so what is not 0 is at least 2 ^ -j: the sum of squares may be divided by
+-- Zeros.add-minus-zero : (f : Format) (x y : Float) → Grid (low f) x → Grid (low f) y → T (isZero true (add f x y)) → T (isZero true x) × T (isZero true y)
+--     a sum is -0.0 only where both terms are; `grid-fits` gives its premises for finite values of the format
+-- Zeros.sub-minus-zero : (f : Format) (x y : Float) → Grid (low f) x → Grid (low f) y → T (isZero true (sub f x y)) → T (isZero true x) × T (isZero false y)
+--     a difference is -0.0 only as -0.0 - 0.0
+-- Zeros.sub-self : (f : Format) (x : Float) → T (finite x) → sub f x x ≡ plusZero
+--     x - x is 0.0
+-- Zeros.score-zero : (f : Format) {k : ℕ} → Score f 0 k plusZero
+--     a score starts at 0.0
+-- Zeros.score-wider : (f : Format) {a j : ℕ} {x : Float} (b k : ℕ) → Score f a j x → a * 2 ^ j ≤ b * 2 ^ k → Score f b k x
+--     its bound may be widened
+-- Zeros.score-add : (f : Format) {a b n k : ℕ} {x y : Float} → Score f a k x → T (fits f y) → Upto b k y → a + b ≤ n → n < 2 ^ prec f → k + prec f ≤ emax f → Score f n k (add f x y)
+--     so a score is finite and never -0.0, whatever terms it adds
+-- Zeros.score-sub : (f : Format) {a b n k : ℕ} {x y : Float} → Score f a k x → T (fits f y) → Upto b k y → a + b ≤ n → n < 2 ^ prec f → k + prec f ≤ emax f → Score f n k (sub f x y)
+--     nor is a score less another: lowering by the best, a gain
+-- Zeros.score-run : (f : Format) (k : ℕ) (x : ℕ → Float) (n : ℕ) → ((i : ℕ) → i < n → T (fits f (x i)) × Upto 1 k (x i)) → n < 2 ^ prec f → k + prec f ≤ emax f → Score f n k (run (add f) plusZero x n)
+--     an n-step sum from 0.0 is a score: a metric, a walk
+--
+-- 4. Casts (`n as f64` is `ofInt binary64 (pos n)`, of a signed z `ofInt binary64 z`)
+-- Values.ofInt-whole : (f : Format) (z : ℤ) → natAbs z ≤ 2 ^ prec f → Whole (ofInt f z) z
+--     a cast within 2 ^ prec loses nothing
+-- Values.ofInt-plain : (f : Format) (z : ℤ) → T (not (isZero true (ofInt f z)))
+--     a cast is never -0.0
+-- Values.ofInt-lt : (f : Format) (a b : ℤ) → natAbs a ≤ 2 ^ prec f → natAbs b ≤ 2 ^ prec f → lt (ofInt f a) (ofInt f b) ≡ ltZ a b
+--     the order of casts is that of the integers
+-- Values.ofInt-le : (f : Format) (a b : ℤ) → natAbs a ≤ 2 ^ prec f → natAbs b ≤ 2 ^ prec f → le (ofInt f a) (ofInt f b) ≡ leZ a b
+--     the same of `<=`
+-- Values.ofInt-allowed : (f : Format) (z : ℤ) → natAbs z ≤ 2 ^ prec f → T (inFloat f z)
+--     what the machine asks of a cast
+--
+-- `Signs` has the sign of a rounded value, for the others. Assumes nothing.
+pub mod Integers
+pub mod Signs
+pub mod Order
+pub mod Sums
+pub mod Rounds
+pub mod Intervals
+pub mod Sizes
+pub mod Grids
+pub mod Zeros
+pub mod Values
+pub mod Folds
+pub mod Samples

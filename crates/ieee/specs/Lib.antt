@@ -1,0 +1,3 @@
+pub mod Whole
+pub mod Within
+pub mod Size
