@@ -11,6 +11,8 @@ use native.Mathlib.Omega.{arith}
 use borrow.Author.Tests.{ltb-false}
 use lib.Dec.{ltb}
 use lib.Pow.{mod-mod-pow, mod-pow-add}
+use Rattle.util.specs.Some.{someOf}
+use Rattle.util.proofs.Some.{neither}
 use Rattle.frame.specs.Crc.{someAboveOne}
 use Rattle.conv.specs.Encoder.{register, state, walkRegister, made}
 use Rattle.conv.specs.Sent.{bitsOf}
@@ -57,12 +59,8 @@ module _ (bits : ℕ → ℕ) (digits : (j : ℕ) → bits j < 2) where
   closed K n l = ends-made K (made bits n K) n (made-below n K) l
 
 -- what the refusals leave: every byte is a bit, and so is what is read past the end
-neither : (a b : Bool) → (a || b) ≡ false → (a ≡ false) × (b ≡ false)
-neither true b e = absurd (true≢false e)
-neither false b e = (refl, e)
-
 pub bits-below : (bytes : List ℕ) → someAboveOne bytes ≡ false → (j : ℕ) → bitsOf bytes j < 2
-unfolding someAboveOne
+unfolding someOf
 bits-below [] e j = omega arith
 bits-below (b ∷ bs) e zero = omega (arith, ltb-false 1 b (neither (ltb 1 b) (someAboveOne bs) e .0))
 bits-below (b ∷ bs) e (suc j) = bits-below bs (neither (ltb 1 b) (someAboveOne bs) e .1) j

@@ -11,7 +11,7 @@ use Rattle.util.specs.Factor.{greatest, gcdOf, coprime}
 use Rattle.util.specs.Multiplier.{startOf, pairs, suits, firstOf, multOf}
 use Rattle.frame.specs.Format.{named}
 use Rattle.frame.specs.Air.{slotOf}
-use Rattle.frame.specs.Crc.{someAboveOne}
+use Rattle.util.specs.Some.{someOf}
 use Rattle.frame.proofs.Air.{slot-within}
 use Rattle.conv.specs.Label.{labelOf}
 use Rattle.conv.specs.Encoder.{register, state, made}
@@ -40,7 +40,7 @@ ones-label j h =
     ap₂ (λ (p b : ℕ). labelOf (register p b)) (ones-state j (omega arith)) (getD-replicate 48 j 1 0 (omega arith)) ∙ register-labels .6
 
 pub ones-sent : (mode : ℕ) → mode < 2 → (values : List ℕ) → length values ≡ 48 → sentValues mode 0 (replicate 48 1) values ≡ replicate 48 10
-unfolding named someAboveOne
+unfolding named someOf
 ones-sent mode m values e =
     simp (e, le-leb mode 1 (omega arith))
     (sym (labels-only 48 (bitsOf ones) (replicate 48 10) refl
@@ -56,7 +56,7 @@ last-labels = (labels-at 48 (bitsOf last) 0 (omega arith) ∙ register-labels .2
 
 pub last-sent : (mode : ℕ) → mode < 2 → (values : List ℕ) → length values ≡ 48
     → (getD (sentValues mode 0 (replicate 47 0 ++ 1 ∷ []) values) 0 0 ≡ 26) × (getD (sentValues mode 0 (replicate 47 0 ++ 1 ∷ []) values) 17 0 ≡ 31)
-unfolding named someAboveOne
+unfolding named someOf
 last-sent mode m values e =
     let known = le-leb mode 1 (omega arith) in
     (simp (e, known) (last-labels .0), simp (e, known) (last-labels .1))

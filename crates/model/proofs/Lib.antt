@@ -1,0 +1,2 @@
+-- Laws of a metric.
+pub mod Terms

@@ -1,0 +1,117 @@
+-- No premise of the claim is empty: any whole numbers are terms, there are accepted terms, and on a small code of the header's shape a closed
+-- word beats every other walk. Assumes nothing.
+use Prim.Native.Nat.{ℕ, zero, suc, _+_, _*_, _%_, _≤_, _<_}
+use mathlib.Core.Path.{_≡_, refl, ap, subst}
+use mathlib.Core.Bool.{Bool, true, false, _&&_, _||_}
+use mathlib.Core.List.{List, [], _∷_}
+use native.Mathlib.Omega.{arith}
+use lib.Dec.{T, eqb, eqb→eq, lit<, lit≤}
+use lib.Bits.{bitAnd}
+use lib.Count.{ones}
+use lib.ListN.{length, getD, replicate, length-replicate, getD-replicate}
+use lib.IntN.{ℤ, pos, natAbs}
+use lib.Signed.{ltZ, _<ℤ_}
+use lib.Ieee.{Float, binary32, nan, fin, ofInt, fits, le}
+use lib.Ieee.Fits.{and-l, and-r}
+use Rattle.ieee.specs.Whole.{Whole, run}
+use Rattle.ieee.specs.Within.{Within}
+use Rattle.ieee.proofs.Values.{ofInt-whole}
+use Rattle.util.specs.Choose.{choose}
+use Rattle.conv.specs.Encoder.{state, walkRegister, made, bit}
+use Rattle.trellis.specs.Trellis.{Trellis, walkScore, closedScore}
+use Rattle.trellis.specs.Search.{closing, search}
+use Rattle.trellis.specs.Numbers.{whole}
+use Rattle.trellis.specs.Terms.{lent, WholeTerms, Accepted}
+use Rattle.trellis.proofs.Demand.{unique}
+use Rattle.trellis.proofs.Every.{every, every-at}
+
+-- ---- terms
+
+-- the first m of f
+unfoldable pub listOf : {A : Type 0} → (ℕ → A) → ℕ → List A
+listOf f zero = []
+listOf f (suc m) = f 0 ∷ listOf (λ i. f (suc i)) m
+
+pub listOf-length : {A : Type 0} (f : ℕ → A) (m : ℕ) → length (listOf f m) ≡ m
+unfolding listOf
+listOf-length f zero = refl
+listOf-length f (suc m) = ap suc (listOf-length (λ i. f (suc i)) m)
+
+listOf-at : {A : Type 0} (f : ℕ → A) (m : ℕ) (d : A) (i : ℕ) → i < m → getD (listOf f m) i d ≡ f i
+unfolding listOf
+listOf-at f zero d i h = absurd (omega arith)
+listOf-at f (suc m) d zero h = refl
+listOf-at f (suc m) d (suc i) h = listOf-at (λ j. f (suc j)) m d i (omega arith)
+
+-- the f32 values of whole numbers
+abbrev pub values : (ℕ → ℤ) → ℕ → List Float
+values ints m = listOf (λ i. ofInt binary32 (ints i)) m
+
+-- any whole numbers from -800 to 800 are such terms
+pub any-whole : (ints : ℕ → ℤ) (m : ℕ) → ((i : ℕ) → i < m → natAbs (ints i) ≤ 800) → WholeTerms 800 (values ints m) ints
+any-whole ints m small = record { whole = λ i h. is i (low i h); small = λ i h. small i (low i h) }
+  where
+    low : (i : ℕ) → i < length (values ints m) → i < m
+    low i h = subst (λ (n : ℕ). i < n) (listOf-length (λ j. ofInt binary32 (ints j)) m) h
+
+    is : (i : ℕ) → i < m → Whole (lent (values ints m) i) (ints i)
+    is i h = rw (listOf-at (λ j. ofInt binary32 (ints j)) m nan i h) (ofInt-whole binary32 (ints i) (omega (arith, small i h)))
+
+-- zeros are accepted, of either sign
+pub zeros-accepted : (n : ℕ) (s : Bool) → Accepted (replicate n (fin s 0 (pos 0)))
+unfolding fits le
+zeros-accepted n s = record { held = λ i h. rw (zero-at i h) tt; within = λ i h. rw (zero-at i h) (by s) }
+  where
+    zero-at : (i : ℕ) → i < length (replicate n (fin s 0 (pos 0))) → lent (replicate n (fin s 0 (pos 0))) i ≡ fin s 0 (pos 0)
+    zero-at i h = getD-replicate n i (fin s 0 (pos 0)) nan (subst (λ (m : ℕ). i < m) (length-replicate n (fin s 0 (pos 0))) h)
+
+    by : (s : Bool) → Within (fin true 15625 (pos 6)) (fin false 15625 (pos 6)) (fin s 0 (pos 0))
+    by true = record { from = tt; to = tt }
+    by false = record { from = tt; to = tt }
+
+-- ---- a closed word that beats every other walk
+
+-- a code of 4 states with generators 7 and 5, 5 steps; at each step the label of the word's own step earns 1, every other nothing
+parity : ℕ → ℕ → ℕ
+parity g r = ones (bitAnd g r) % 2
+
+smallLabel : ℕ → ℕ
+smallLabel r = parity 7 r + 2 * parity 5 r
+
+pub smallClean : ℕ → Trellis ℤ
+smallClean w =
+    record {
+      scale = whole;
+      states = 4;
+      steps = 5;
+      earn = λ j r. choose (eqb (smallLabel r) (smallLabel (walkRegister 4 (made (bit w) 5 2) (bit w) j))) (pos 1) (pos 0);
+    }
+
+-- every walk but that of the word 13 scores less: all 4 · 32 are worked out
+less-or-it : ℕ → ℕ → Bool
+less-or-it p v = ltZ (walkScore (smallClean 13) p v) (closedScore (smallClean 13) 2 13) || (eqb p (made (bit 13) 5 2) && eqb v 13)
+
+all-less : T (every 4 (λ p. every 32 (less-or-it p)))
+unfolding every less-or-it smallClean smallLabel parity run state made ones
+all-less = tt
+
+pub beats-all : (p v : ℕ) → p < 4 → v < 32 → ((p ≡ made (bit 13) 5 2) × (v ≡ 13) → ⊥)
+    → walkScore (smallClean 13) p v <ℤ closedScore (smallClean 13) 2 13
+unfolding less-or-it
+beats-all p v hp hv other =
+    go (ltZ (walkScore (smallClean 13) p v) (closedScore (smallClean 13) 2 13)) refl
+    (every-at 32 (less-or-it p) (every-at 4 (λ q. every 32 (less-or-it q)) all-less p hp) v hv)
+  where
+    it : T (eqb p (made (bit 13) 5 2) && eqb v 13) → ⊥
+    it t =
+        let start = made (bit 13) 5 2 in
+        other (eqb→eq p start (and-l (eqb p start) (eqb v 13) t), eqb→eq v 13 (and-r (eqb p start) (eqb v 13) t))
+
+    go : (c : Bool) → ltZ (walkScore (smallClean 13) p v) (closedScore (smallClean 13) 2 13) ≡ c
+        → T (c || (eqb p (made (bit 13) 5 2) && eqb v 13)) → walkScore (smallClean 13) p v <ℤ closedScore (smallClean 13) 2 13
+    go true e t = record { lt = rw e tt }
+    go false e t = absurd (it t)
+
+pub thirteen-out : (search (smallClean 13) .word ≡ 13) × (search (smallClean 13) .how ≡ closing 1)
+unfolding smallClean
+thirteen-out = unique 2 (lit< tt) 5 (lit≤ tt) (smallClean 13 .earn) 13 beats-all

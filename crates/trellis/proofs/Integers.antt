@@ -1,0 +1,90 @@
+-- The whole numbers are `Lawful`: their order is one that sums keep, since b is at least a exactly where it is a and some more.
+-- Assumes nothing.
+use Prim.Native.Nat.{ℕ, zero, suc, _+_, _-_, _≤_, _<_}
+use mathlib.Core.Path.{_≡_, refl, sym, ap, _∙_, subst}
+use mathlib.Core.Bool.{Bool, true, false, not, cond}
+use native.Mathlib.Nat.{le-trans, le-of-lt}
+use native.Mathlib.Omega.{arith}
+use lib.Dec.{T, ltb, leb→le, le→leb, ltb→lt, nltb→le}
+use lib.IntN.{ℤ, pos, negsuc, sucℤ, subℕ, _+ℤ_, _-ℤ_, +ℤ-assoc, +ℤ-comm, +ℤ-idr, +ℤ-sucℤ, +ℤ-negℤ-cancel}
+use lib.Signed.{leZ, ltZ, _≤ℤ_, ltZ-no, clashℤ, ≤ℤ-refl}
+use Rattle.trellis.specs.Numbers.{whole}
+use Rattle.trellis.proofs.Best.{Lawful}
+
+trans′ : (a b c : ℤ) → T (leZ a b) → T (leZ b c) → T (leZ a c)
+trans′ (pos a) (pos b) (pos c) h k = le→leb a c (le-trans (leb→le a b h) (leb→le b c k))
+trans′ (pos a) (pos b) (negsuc c) h k = k
+trans′ (pos a) (negsuc b) c h k = absurd h
+trans′ (negsuc a) (pos b) (pos c) h k = tt
+trans′ (negsuc a) (pos b) (negsuc c) h k = absurd k
+trans′ (negsuc a) (negsuc b) (pos c) h k = tt
+trans′ (negsuc a) (negsuc b) (negsuc c) h k = le→leb c a (le-trans (leb→le c b k) (leb→le b a h))
+
+≤ℤ-trans : {a b c : ℤ} → a ≤ℤ b → b ≤ℤ c → a ≤ℤ c
+≤ℤ-trans {a} {b} {c} h k = record { le = trans′ a b c (h .le) (k .le) }
+
+less′ : (a b : ℤ) → T (ltZ a b) → T (leZ a b)
+less′ (pos a) (pos b) h = le→leb a b (le-of-lt (ltb→lt a b h))
+less′ (pos a) (negsuc b) h = h
+less′ (negsuc a) (pos b) h = tt
+less′ (negsuc a) (negsuc b) h = le→leb b a (le-of-lt (ltb→lt b a h))
+
+<ℤ-≤ℤ : {a b : ℤ} → T (ltZ a b) → a ≤ℤ b
+<ℤ-≤ℤ {a} {b} h = record { le = less′ a b h }
+
+-- ---- a sum keeps the order
+
+-- k − (m + 1), on either side of 0
+sub-below : (k m : ℕ) → k ≤ m → subℕ k (suc m) ≡ negsuc (m - k)
+sub-below k m h = go (ltb k (suc m)) (λ t. nltb→le k (suc m) t)
+  where
+    go : (t : Bool) → (T (not t) → suc m ≤ k) → cond t (negsuc (suc m - suc k)) (pos (k - suc m)) ≡ negsuc (m - k)
+    go true f = ap negsuc (omega arith)
+    go false f = let g : suc m ≤ k = f tt in absurd (omega arith)
+
+sub-above : (k m : ℕ) → m < k → subℕ k (suc m) ≡ pos (k - suc m)
+sub-above k m h = go (ltb k (suc m)) (λ t. ltb→lt k (suc m) t)
+  where
+    go : (t : Bool) → (T t → k < suc m) → cond t (negsuc (suc m - suc k)) (pos (k - suc m)) ≡ pos (k - suc m)
+    go true f = let g : k < suc m = f tt in absurd (omega arith)
+    go false f = refl
+
+gap : (a b : ℤ) → T (leZ a b) → (k : ℕ) × (a +ℤ pos k ≡ b)
+gap (pos a) (pos b) h = (b - a, ap pos (omega (arith, leb→le a b h)))
+gap (pos a) (negsuc b) h = absurd h
+gap (negsuc a) (pos b) h = (b + suc a, sub-above (b + suc a) a (omega arith) ∙ ap pos (omega arith))
+gap (negsuc a) (negsuc b) h = (a - b, sub-below (a - b) a (omega arith) ∙ ap negsuc (omega (arith, leb→le b a h)))
+
+le-suc : (a : ℤ) → T (leZ a (sucℤ a))
+le-suc (pos a) = le→leb a (suc a) (omega arith)
+le-suc (negsuc zero) = tt
+le-suc (negsuc (suc a)) = le→leb a (suc a) (omega arith)
+
+le-more : (a : ℤ) (k : ℕ) → a ≤ℤ (a +ℤ pos k)
+le-more a zero = rw (+ℤ-idr a) (≤ℤ-refl a)
+le-more a (suc k) = rw (+ℤ-sucℤ a (pos k)) (≤ℤ-trans (le-more a k) (record { le = le-suc (a +ℤ pos k) }))
+
+≤ℤ-add : {a b : ℤ} (c : ℤ) → a ≤ℤ b → (a +ℤ c) ≤ℤ (b +ℤ c)
+≤ℤ-add {a} {b} c h =
+    let (k, e) = gap a b (h .le) in
+    subst (λ (x : ℤ). (a +ℤ c) ≤ℤ x)
+    (+ℤ-assoc a c (pos k) ∙ ap (λ (x : ℤ). a +ℤ x) (+ℤ-comm c (pos k)) ∙ sym (+ℤ-assoc a (pos k) c) ∙ ap (λ (x : ℤ). x +ℤ c) e)
+    (le-more (a +ℤ c) k)
+
+-- taking away what was added
++ℤ-take : (a b : ℤ) → (a +ℤ b) -ℤ a ≡ b
++ℤ-take a b = ap (λ (x : ℤ). x -ℤ a) (+ℤ-comm a b) ∙ +ℤ-negℤ-cancel b a
+
+pub lawful : Lawful whole _≤ℤ_
+lawful =
+    record {
+      le-refl = ≤ℤ-refl;
+      le-trans = ≤ℤ-trans;
+      le-add = ≤ℤ-add;
+      gt-le = <ℤ-≤ℤ;
+      not-gt-le = λ t. ltZ-no t;
+      gt-not-le = λ t h. clashℤ (record { lt = t }) h;
+      add-nil = +ℤ-idr;
+      add-assoc = +ℤ-assoc;
+      add-sub = +ℤ-take;
+    }

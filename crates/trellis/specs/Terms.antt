@@ -1,0 +1,56 @@
+-- Document 01, 'A header read': from terms to what a register earns, and the search over them.
+use Prim.Native.Nat.{ℕ, _≤_, _<_}
+use mathlib.Core.Bool.{true, false}
+use mathlib.Core.List.{List}
+use lib.ListN.{length, getD}
+use lib.Dec.{T}
+use lib.IntN.{ℤ, natAbs}
+use lib.Ieee.{Float, nan, binary32, fits}
+use Rattle.ieee.specs.Whole.{Whole}
+use Rattle.ieee.specs.Within.{Within}
+use Rattle.frame.specs.Format.{formatOf, headerBits}
+use Rattle.frame.specs.Air.{hopOf, binOf, placeOf, slotOf}
+use Rattle.conv.specs.Label.{labelOf}
+use Rattle.model.specs.Metric.{metricOf}
+use Rattle.model.specs.Range.{million}
+use Rattle.trellis.specs.Scale.{Scale}
+use Rattle.trellis.specs.Trellis.{Trellis}
+use Rattle.trellis.specs.Search.{search}
+use Rattle.trellis.specs.Answer.{Answer, answerOf}
+use Rattle.trellis.specs.Numbers.{single, whole}
+
+-- header symbol s has hop(s); the place of value v's bin
+abbrev pub placeIn : ℕ → ℕ → ℕ → ℕ
+placeIn bins symbol v = placeOf (binOf bins (hopOf bins symbol) v)
+
+-- value v's metric in a symbol: the sum of five terms around the place of its bin (`metricOf` of crate model)
+abbrev pub metric : {A : Type 0} → Scale A → ℕ → (ℕ → A) → ℕ → ℕ → A
+metric S bins terms symbol v = metricOf (S .add) (S .nil) terms symbol (placeIn bins symbol v)
+
+-- step j takes the 32 metrics of its slot: a register earns there the metric of its label
+abbrev pub header : {A : Type 0} → Scale A → ℕ → ℕ → (ℕ → A) → Trellis A
+header S mode kind terms =
+    record {
+      scale = S;
+      states = 16384;
+      steps = headerBits kind;
+      earn = λ j r. metric S (formatOf mode .bins) terms (slotOf (headerBits kind) j) (labelOf r);
+    }
+
+-- the terms as they are lent
+abbrev pub lent : List Float → ℕ → Float
+lent terms i = getD terms i nan
+
+-- the answer of document 01's search
+abbrev pub documentSearch : ℕ → ℕ → List Float → Answer Float
+documentSearch mode kind terms = answerOf (search (header single mode kind (lent terms)))
+
+-- the terms are the whole numbers ints, each from -b to b
+pub record WholeTerms (b : ℕ) (terms : List Float) (ints : ℕ → ℤ) : Type 0 where
+  pub whole : (i : ℕ) → i < length terms → Whole (lent terms i) (ints i)
+  pub small : (i : ℕ) → i < length terms → natAbs (ints i) ≤ b
+
+-- the terms are accepted: f32 values, each from -1,000,000 to 1,000,000
+pub record Accepted (terms : List Float) : Type 0 where
+  pub held : (i : ℕ) → i < length terms → T (fits binary32 (lent terms i))
+  pub within : (i : ℕ) → i < length terms → Within (million true) (million false) (lent terms i)
