@@ -1,6 +1,7 @@
 // Holds the proved parts against the Rust, exhaustively where that is possible, and prints counts.
-// A section that differs prints its smallest input, and the run ends with status 1.
+// A section that differs prints its smallest input, and the run ends with status 1. The argument is how many headers of each style are read.
 use ion::phy_mfsk::hook::{Fmt, Kind, MfskMode, air, windows};
+mod read;
 mod sent;
 
 // A lent slice is two arguments, its first element and its length.
@@ -170,6 +171,9 @@ fn numbers(wrong: &mut bool) {
 }
 
 fn main() {
+    if std::env::args().nth(1).as_deref() == Some("time") {
+        return read::time(1_000);
+    }
     let mut wrong = false;
     multipliers(&mut wrong);
     crcs(&mut wrong);
@@ -178,5 +182,7 @@ fn main() {
     air_order(&mut wrong);
     numbers(&mut wrong);
     sent::all(&mut wrong);
+    let headers = std::env::args().nth(1).map_or(2_400, |n| n.parse().expect("how many headers of each style"));
+    read::all(&mut wrong, headers);
     std::process::exit(wrong as i32);
 }

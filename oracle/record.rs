@@ -1,6 +1,18 @@
 // Writes recorded answers of the Rust to standard output, for crates/vectors/stdin: 17 bytes a record.
-use ion::phy_mfsk::hook::{Fmt, Kind, MfskMode, air, windows};
+use ion::phy_mfsk::hook::{Fmt, Kind, MfskMode, Terms, air, code, decode_terms, decode_terms_told, windows};
 use std::io::Write;
+
+/// The terms that crates/vectors works out from a seed: whole numbers from -2 to 2, with the values of a header raised by up to 7.
+fn terms(mode: MfskMode, kind: Kind, seed: u64) -> Vec<Terms> {
+    let fmt = Fmt::of(mode);
+    let n = air::header_info_bits(kind);
+    let bits: Vec<u8> = (0..n).map(|j| (air::mix64(seed) >> j & 1) as u8).collect();
+    let mut t: Vec<f32> = (0..260 * n as u64).map(|i| (air::mix64(seed ^ i << 8) % 5) as f32 - 2.0).collect();
+    for (s, v) in air::header_values(mode, kind, &bits).iter().enumerate() {
+        t[260 * s + 104 + fmt.tone_bin(fmt.hop(s), 0, v[0] as usize) + 2] += (seed % 8) as f32;
+    }
+    t.chunks(260).map(|s| std::array::from_fn(|r| std::array::from_fn(|p| s[52 * r + p]))).collect()
+}
 
 fn main() {
     let mut out = Vec::new();
@@ -44,6 +56,24 @@ fn main() {
                 for (part, slots) in air::header_values(mode, kind, &bits).chunks(8).enumerate() {
                     let values = slots.iter().rev().fold(0, |v, s| v << 8 | s[0] as u64);
                     put((16 + part + 8 * (k + 3 * m)) as u8, word, values);
+                }
+            }
+        }
+    }
+    let c = code();
+    for (m, mode) in [MfskMode::R0, MfskMode::R1].into_iter().enumerate() {
+        for (k, kind) in [Kind::HeaderOnly, Kind::Data, Kind::Cue].into_iter().enumerate() {
+            let first = 100 * m as u64 + 10 * k as u64;
+            // besides, the first that closes in pass 3 and the first that stays Open
+            let late = (1000..).find(|&seed| decode_terms_told(&c, mode, kind, &terms(mode, kind, seed)).2 .1 == 3).unwrap();
+            let open = (1000..).find(|&seed| decode_terms_told(&c, mode, kind, &terms(mode, kind, seed)).2 .0 == 2).unwrap();
+            for seed in (first..first + 8).chain([late, open]) {
+                let t = terms(mode, kind, seed);
+                let (bits, score) = decode_terms(&c, mode, kind, &t);
+                let (_, _, (how, pass, _)) = decode_terms_told(&c, mode, kind, &t);
+                let word = bits.iter().rev().fold(0, |w, &b| w << 1 | b as u64);
+                for (part, answer) in [word, how as u64 + 16 * pass as u64, score.to_bits() as u64].into_iter().enumerate() {
+                    put((64 + part + 3 * (k + 3 * m)) as u8, seed, answer);
                 }
             }
         }

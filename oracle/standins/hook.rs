@@ -31,14 +31,19 @@ pub fn code() -> ConvCode {
 /// is acquire.rs's (line cited in the README), all of it calls of the Rust's functions.
 pub fn decode_terms(c: &ConvCode, mode: MfskMode, kind: Kind, terms: &[Terms]) -> (Vec<u8>, f32) {
     let fmt = Fmt::of(mode);
-    let steps = frame::header_steps(fmt, kind);
-    c.decode_tb(steps, 3, &mut |j, m| {
-        let slot = frame::header_slot(fmt, kind, j);
-        let h = fmt.hop(slot);
-        for (v, o) in m.iter_mut().enumerate() {
-            *o = metric(&terms[slot], fmt.tone_bin(h, 0, v) + EXT);
-        }
-    })
+    c.decode_tb(frame::header_steps(fmt, kind), 3, &mut |j, m| step_metrics(fmt, kind, terms, j, m))
+}
+/// The same by the copy of its loop, which tells besides how the word came.
+pub fn decode_terms_told(c: &ConvCode, mode: MfskMode, kind: Kind, terms: &[Terms]) -> (Vec<u8>, f32, (u8, u8, u8)) {
+    let fmt = Fmt::of(mode);
+    c.decode_tb_told(frame::header_steps(fmt, kind), 3, &mut |j, m| step_metrics(fmt, kind, terms, j, m))
+}
+fn step_metrics(fmt: Fmt, kind: Kind, terms: &[Terms], j: usize, m: &mut [f32]) {
+    let slot = frame::header_slot(fmt, kind, j);
+    let h = fmt.hop(slot);
+    for (v, o) in m.iter_mut().enumerate() {
+        *o = metric(&terms[slot], fmt.tone_bin(h, 0, v) + EXT);
+    }
 }
 
 /// A tracker as `Active` holds it; everything but the drift fields and the given ones is empty.

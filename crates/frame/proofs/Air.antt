@@ -11,8 +11,16 @@ use Rattle.util.specs.Choose.{choose}
 use Rattle.util.specs.Multiplier.{multOf}
 use Rattle.util.proofs.Slots.{no-further, slot-below, one-to-one}
 use Rattle.util.proofs.Found.{mult-coprime}
-use Rattle.frame.specs.Format.{headerBits}
+use Rattle.frame.specs.Format.{r0, r1, formatOf, headerBits}
 use Rattle.frame.specs.Air.{hopOf, binOf, placeOf, slotOf}
+
+-- a mode has bins for the 32 values, and at most 48
+pub some-bins : (mode : ℕ) → (32 ≤ formatOf mode .bins) × (formatOf mode .bins ≤ 48)
+some-bins mode = by (eqb mode 0)
+  where
+    by : (t : Bool) → (32 ≤ choose t r0 r1 .bins) × (choose t r0 r1 .bins ≤ 48)
+    by true = (lit≤ tt, lit≤ tt)
+    by false = (lit≤ tt, lit≤ tt)
 
 pub hop-below : (bins i : ℕ) → 0 < bins → hopOf bins i < bins
 unfolding hopOf

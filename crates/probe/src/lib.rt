@@ -28,6 +28,16 @@ pub extern "C" fn probe_hop(mode: u8, i: u64) -> u64
     frame::hop(mode, i)
 }
 
+// The bin of a value below 32 in header or data symbol i.
+#[no_mangle]
+pub extern "C" fn probe_bin(mode: u8, i: u64, v: u8) -> u64 {
+    if v > 31 {
+        return 0x1_0000_0000;
+    }
+    let bins = frame::bins(mode);
+    frame::tone_bin(bins, frame::hop(mode, i), v as u64)
+}
+
 #[no_mangle]
 pub extern "C" fn probe_scramble(p: u64) -> u64
     ensures { λ r. ⌜ r ≡ scrambleOf p ⌝ }
@@ -95,5 +105,65 @@ pub extern "C" fn probe_header_values(mode: u8, kind: u8, bits: &[u8], values: &
     match conv::header_values(mode, kind, bits, values) {
         conv::Sent::Done => 0,
         conv::Sent::Refused(k) => 0x1_0000_0000 + (k as u64),
+    }
+}
+
+// Where the header was read: its word, outcome (0 Sure, 1 Kept, 2 Open), pass and score, and 0; else 2^32 and the
+// refusal's number, or 2^32 alone where the answer has not 3 places and the score 1.
+#[no_mangle]
+pub extern "C" fn probe_read_header(
+    mode: u8,
+    kind: u8,
+    terms: &[f32],
+    ends: &mut [f32],
+    second: &mut [f32],
+    start: &mut [f32],
+    decisions: &mut [u64],
+    answer: &mut [u64],
+    score: &mut [f32],
+) -> u64 {
+    if answer.len() != 3 {
+        return 0x1_0000_0000;
+    }
+    if score.len() != 1 {
+        return 0x1_0000_0000;
+    }
+    match header::read_header(mode, kind, terms, ends, second, start, decisions) {
+        header::HeaderRead::Answer(a) => {
+            answer[0] = a.word;
+            let outcome = a.outcome;
+            let told = told_of(outcome);
+            answer[1] = told.outcome;
+            answer[2] = told.pass;
+            score[0] = told.score;
+            0
+        }
+        header::HeaderRead::Refused(k) => 0x1_0000_0000 + (k as u64),
+    }
+}
+
+struct Told {
+    outcome: u64,
+    pass: u64,
+    score: f32,
+}
+
+fn told_of(outcome: header::Outcome) -> Told {
+    match outcome {
+        header::Outcome::Sure(x, pass) => Told {
+            outcome: 0,
+            pass: pass as u64,
+            score: x,
+        },
+        header::Outcome::Kept(x) => Told {
+            outcome: 1,
+            pass: 0,
+            score: x,
+        },
+        header::Outcome::Open(x) => Told {
+            outcome: 2,
+            pass: 0,
+            score: x,
+        },
     }
 }

@@ -19,7 +19,7 @@ use Rattle.ieee.specs.Whole.{run}
 use Rattle.util.specs.Choose.{choose}
 use Rattle.frame.specs.Format.{formatOf, headerBits}
 use Rattle.frame.specs.Air.{hopOf, slotOf}
-use Rattle.frame.proofs.Air.{bin-below, bins-differ, header-least}
+use Rattle.frame.proofs.Air.{some-bins, bin-below, bins-differ, header-least}
 use Rattle.conv.specs.Label.{labelOf}
 use Rattle.conv.specs.Encoder.{register, state, walkRegister, made, bit}
 use Rattle.conv.proofs.Linear.{label-lt, computed, label-computed}
@@ -31,7 +31,6 @@ use Rattle.trellis.specs.Terms.{placeIn, metric, documentSearch}
 use Rattle.trellis.specs.Demand.{walk, closed, Another}
 use Rattle.trellis.proofs.Demand.{demand-3}
 use Rattle.trellis.proofs.Guards.{values, listOf-length, any-whole}
-use Rattle.trellis.proofs.Metric.{some-bins}
 use Rattle.trellis.proofs.Silent.{only-zeros}
 
 -- 1 where two numbers agree, else 0

@@ -2,14 +2,12 @@
 -- metrics do so and are at most 5 M, and the two searches of a header say the same. Assumes nothing.
 use Prim.Native.Nat.{ℕ, _+_, _-_, _*_, _≤_, _<_}
 use mathlib.Core.Path.{_≡_, refl}
-use mathlib.Core.Bool.{Bool, true, false}
 use native.Mathlib.Nat.{le-trans, mul-le-mul-right}
 use native.Mathlib.Omega.{arith}
-use lib.Dec.{eqb, lit≤, lit<}
-use Rattle.util.specs.Choose.{choose}
-use Rattle.frame.specs.Format.{r0, r1, formatOf, headerBits}
+use lib.Dec.{lit<}
+use Rattle.frame.specs.Format.{formatOf, headerBits}
 use Rattle.frame.specs.Air.{hopOf, slotOf}
-use Rattle.frame.proofs.Air.{slot-within, header-most}
+use Rattle.frame.proofs.Air.{some-bins, slot-within, header-most}
 use Rattle.conv.specs.Label.{labelOf}
 use Rattle.model.specs.Metric.{termAt, metricOf}
 use Rattle.model.proofs.Terms.{place-in-row, term-in-symbol}
@@ -17,14 +15,6 @@ use Rattle.trellis.specs.Scale.{Scale}
 use Rattle.trellis.specs.Search.{search}
 use Rattle.trellis.specs.Terms.{placeIn, metric, header}
 use Rattle.trellis.proofs.Alike.{Follows, Same, SamePass, reach, sum-alike, pass-alike, search-alike}
-
--- a mode has bins for the 32 values, and at most 48
-pub some-bins : (mode : ℕ) → (32 ≤ formatOf mode .bins) × (formatOf mode .bins ≤ 48)
-some-bins mode = by (eqb mode 0)
-  where
-    by : (t : Bool) → (32 ≤ choose t r0 r1 .bins) × (choose t r0 r1 .bins ≤ 48)
-    by true = (lit≤ tt, lit≤ tt)
-    by false = (lit≤ tt, lit≤ tt)
 
 -- the five terms of a metric are among the 260 of its symbol
 term-within : (bins symbol v j n : ℕ) → 0 < bins → bins ≤ 48 → symbol < n → j < 5 → termAt symbol j (placeIn bins symbol v + j - 2) < 260 * n

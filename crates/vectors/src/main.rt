@@ -5,6 +5,8 @@ ghost use lib.ListN.{length};
 ghost use mathlib.Core.Path.{_≡_};
 use libc::STDIN_FILENO;
 
+mod read;
+
 const RECORD: usize = 17;
 
 fn wide(x: u8) -> u64 {
@@ -25,7 +27,7 @@ fn word(s: &[u8], at: usize) -> u64
 }
 
 // The 64 bits, a byte each, the lowest first.
-fn bits_of(x: u64) -> [u8; 64]
+pub fn bits_of(x: u64) -> [u8; 64]
     ensures { λ r. ⌜ 64 ≡ length r ⌝ }
 {
     let mut out = [0u8; 64];
@@ -78,6 +80,13 @@ fn header(what: u8, asked: u64) -> u64 {
     }
 }
 
+fn long(what: u8, asked: u64) -> u64 {
+    if what < 64 {
+        return header(what, asked);
+    }
+    read::header(what, asked)
+}
+
 fn answer(what: u8, asked: u64) -> u64 {
     match what {
         0 => probe::probe_mult(asked),
@@ -92,7 +101,7 @@ fn answer(what: u8, asked: u64) -> u64 {
         9 => probe::probe_symbol((asked % 256) as u8),
         10 => probe::probe_bins((asked % 256) as u8),
         11 => probe::probe_has_window((asked % 256) as u8, ((asked >> 8) % 65536) as u32),
-        _ => header(what, asked),
+        _ => long(what, asked),
     }
 }
 

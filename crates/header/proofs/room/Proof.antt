@@ -1,0 +1,47 @@
+-- `header::room` meets its contract: each return by the tests that led there. Assumes nothing.
+use Prim.Native.Nat.{ℕ, _*_}
+use mathlib.Core.Bool.{true, false}
+use mathlib.Core.Path.{_≡_, sym, ap, _∙_}
+use native.Mathlib.Omega.{arith}
+use borrow.Author.Needs.{needs}
+use borrow.Author.Tests.{eq-eqb, ne-eqb}
+use lib.Dec.{eqb}
+use Rattle.frame.proofs.Air.{header-most}
+use Rattle.frame.specs.Format.{headerBits}
+use Rattle.header.proofs.room.Statement.{statement}
+use Rattle.header.proofs.room.Tie as tie
+
+-- a length tested against n symbols is tested against the kind's
+module _ {n m : ℕ} (x k : ℕ) (e : n ≡ m) where
+  same : x ≡ n * k → eqb x (m * k) ≡ true
+  same q = eq-eqb x (m * k) (q ∙ ap (λ (i : ℕ). i * k) e)
+
+  other : (x ≡ n * k → ⊥) → eqb x (m * k) ≡ false
+  other q = ne-eqb x (m * k) (λ r. q (r ∙ ap (λ (i : ℕ). i * k) (sym e)))
+
+header-symbols-requires : tie.Need-header-symbols-requires
+header-symbols-requires c κs = search needs
+
+mul-if1 : tie.Need-mul-if1
+mul-if1 c = record { fits = omega (arith, c .header-symbols .ensures, header-most (c .before .args .kind)) }
+
+returns : tie.Need-returns
+returns c = simp (other (c .before .before .args .terms) 260 (c .before .header-symbols .ensures) (c .if1 .taken))
+
+returns-2 : tie.Need-returns-2
+returns-2 c = simp (same (c .before .before .before .args .terms) 260 (c .before .before .header-symbols .ensures) (c .before .if1 .left), ne-eqb _ _ (c .if2 .taken))
+
+returns-3 : tie.Need-returns-3
+returns-3 c = simp (same (c .before .before .before .before .args .terms) 260 (c .before .before .before .header-symbols .ensures) (c .before .before .if1 .left), eq-eqb _ _ (c .before .if2 .left), ne-eqb _ _ (c .if3 .taken))
+
+returns-4 : tie.Need-returns-4
+returns-4 c = simp (same (c .before .before .before .before .before .args .terms) 260 (c .before .before .before .before .header-symbols .ensures) (c .before .before .before .if1 .left), eq-eqb _ _ (c .before .before .if2 .left), eq-eqb _ _ (c .before .if3 .left), ne-eqb _ _ (c .if4 .taken))
+
+mul-result : tie.Need-mul-result
+mul-result c = record { fits = omega (arith, c .before .before .before .before .header-symbols .ensures, header-most (c .before .before .before .before .before .args .kind)) }
+
+returns-5 : tie.Need-returns-5
+returns-5 c = simp (same (c .before .before .before .before .before .args .terms) 260 (c .before .before .before .before .header-symbols .ensures) (c .before .before .before .if1 .left), eq-eqb _ _ (c .before .before .if2 .left), eq-eqb _ _ (c .before .if3 .left), eq-eqb _ _ (c .if4 .left)) (ap (λ (n : ℕ). eqb (c .before .before .before .before .before .args .decisions) (n * 256)) (c .before .before .before .before .header-symbols .ensures))
+
+pub room-spec : {M : Type 1} → statement M
+room-spec = tie.close (tie.spec header-symbols-requires mul-if1 returns returns-2 returns-3 returns-4 mul-result returns-5)

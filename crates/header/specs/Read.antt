@@ -1,0 +1,70 @@
+-- Document 01, 'A header read': the public entry, with its refusals, its answer and its work areas.
+use Prim.Native.Nat.{ℕ, _*_}
+use mathlib.Core.Bool.{Bool, not, _&&_}
+use mathlib.Core.List.{List, [], _∷_}
+use mathlib.Core.Path.{_≡_}
+use lib.Dec.{eqb}
+use lib.Ieee.{Float}
+use lib.ListN.{length, replicate}
+use Rattle.util.specs.Refusal as Refusal
+use Rattle.util.specs.Refusal.{Cause, refused, accepted, outcome, afterwards}
+use Rattle.ieee.specs.Whole.{plusZero}
+use Rattle.frame.specs.Format.{named, headerBits}
+use Rattle.model.specs.Range.{someOut}
+use Rattle.trellis.specs.Answer as Answer
+use Rattle.trellis.specs.Terms.{documentSearch}
+use Rattle.header.specs.declared.Outcome.{Outcome}
+use Rattle.header.specs.declared.Outcome.the-variants.{Sure, Kept, Open}
+use Rattle.header.specs.declared.HeaderAnswer.{HeaderAnswer}
+use Rattle.header.specs.declared.HeaderRead.{HeaderRead}
+use Rattle.header.specs.declared.HeaderRead.the-variants.{Answer, Refused}
+
+-- the outcome's cases and the answer in document 01's words
+abbrev pub outcomeIs : Outcome → Answer.Outcome Float
+outcomeIs (Sure x pass) = Answer.Sure x pass
+outcomeIs (Kept x) = Answer.Kept x
+outcomeIs (Open x) = Answer.Open x
+
+abbrev pub answerIs : HeaderAnswer → Answer.Answer Float
+answerIs a = record { word = a .word; outcome = outcomeIs (a .outcome) }
+
+abbrev pub meaning : HeaderRead → Refusal.Outcome (Answer.Answer Float)
+meaning (Answer a) = accepted (answerIs a)
+meaning (Refused k) = refused k
+
+-- work areas: three of 16,384 f32, one of 256 u64 a step
+pub record Areas : Type 0 where
+  pub ends : List Float
+  pub second : List Float
+  pub start : List Float
+  pub decisions : List ℕ
+
+abbrev pub areas : List Float → List Float → List Float → List ℕ → Areas
+areas ends second start decisions = record { ends = ends; second = second; start = start; decisions = decisions }
+
+-- the areas have these lengths
+pub record Room (kind : ℕ) (w : Areas) : Type 0 where
+  pub of-ends : length (w .ends) ≡ 16384
+  pub of-second : length (w .second) ≡ 16384
+  pub of-start : length (w .start) ≡ 16384
+  pub of-decisions : length (w .decisions) ≡ headerBits kind * 256
+
+-- terms: per symbol five rows of 52; areas: three of 16,384, one of 256 a step
+abbrev pub lengthsRight : ℕ → ℕ → ℕ → ℕ → ℕ → ℕ → Bool
+lengthsRight kind terms ends second start decisions =
+    eqb terms (headerBits kind * 260) && (eqb ends 16384 && (eqb second 16384 && (eqb start 16384 && eqb decisions (headerBits kind * 256))))
+
+abbrev pub causes : ℕ → ℕ → List Float → Areas → List Cause
+causes mode kind terms w =
+    (record { holds = not (named mode kind); number = 1 })
+    ∷ (record { holds = not (lengthsRight kind (length terms) (length (w .ends)) (length (w .second)) (length (w .start)) (length (w .decisions))); number = 4 })
+    ∷ (record { holds = someOut terms; number = 6 })
+    ∷ []
+
+-- the public entry: its answer
+abbrev pub headerRead : ℕ → ℕ → List Float → Areas → Refusal.Outcome (Answer.Answer Float)
+headerRead mode kind terms w = outcome (causes mode kind terms w) (documentSearch mode kind terms)
+
+-- an area at exit: as it was on a refusal, else zeros
+abbrev pub areaAfter : {A : Type 0} → Refusal.Outcome (Answer.Answer Float) → A → List A → List A
+areaAfter o nil area = afterwards o area (replicate (length area) nil)

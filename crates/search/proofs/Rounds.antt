@@ -1,0 +1,125 @@
+-- The loop over the passes: what holds as a pass begins, and what a pass that closes, or the third, makes of it. Assumes nothing.
+use Prim.Native.Nat.{ℕ, zero, suc, _≤_, _<_}
+use mathlib.Core.Bool.{Bool, true, false}
+use mathlib.Core.List.{List}
+use mathlib.Core.Option.{Option, none, some}
+use mathlib.Core.Path.{_≡_, refl, sym, ap, ap₂, _∙_}
+use native.Mathlib.Nat.{not-suc-le-zero}
+use native.Mathlib.Omega.{arith}
+use borrow.Author.Count.{below-more}
+use lib.Ieee.{Float, nan, sub, binary32}
+use lib.ListN.{length, replicate, length-replicate, getD-replicate}
+use Rattle.util.specs.Choose.{choose}
+use Rattle.ieee.specs.Whole.{plusZero}
+use Rattle.trellis.specs.Trellis.{Trellis}
+use Rattle.trellis.specs.Search.{How, closing, unclosed, Candidate, Found, final, endState, lowered, begin, closesIn, last, best, candidates, wordIn, settled, search}
+use Rattle.search.specs.Areas.{table, stepsIn, over, packed, Holds, Lent}
+use Rattle.search.specs.Scan.{scanned}
+use Rattle.search.specs.Passed.{Passed}
+use Rattle.search.specs.Found.{kept, settledBy}
+use Rattle.search.specs.declared.Best.{Best}
+use Rattle.search.specs.declared.Best.the-variants.{Nothing}
+use Rattle.search.specs.declared.Traceback.{Traceback}
+use Rattle.search.proofs.Passes.{passed-same, scanned-same}
+
+-- pass k, counted from 0, is about to begin
+pub record Begun (metrics ends second start : List Float) (decisions : List ℕ) (b : Best) (k : ℕ) : Type 0 where
+  pub lent : Lent metrics ends second start decisions
+  pub few : k ≤ 2
+  pub held : (s : ℕ) → s < 16384 → table ends s ≡ begin (over metrics) k s
+  pub so-far : kept b ≡ best (over metrics) k
+  pub unclosed : (i : ℕ) → i < k → closesIn (over metrics) i ≡ false
+
+-- the first pass begins with all scores at 0.0
+pub first : {metrics ends second start zeros : List Float} {decisions : List ℕ} → Lent metrics ends second start decisions
+    → zeros ≡ replicate (length ends) plusZero → Begun metrics zeros second start decisions Nothing 0
+unfolding begin best
+first {metrics} {ends} lent e =
+    record {
+      lent = record {
+        steps = lent .steps;
+        of-ends = ap length e ∙ length-replicate (length ends) plusZero ∙ lent .of-ends;
+        of-second = lent .of-second;
+        of-start = lent .of-start;
+        of-decisions = lent .of-decisions;
+      };
+      few = omega arith;
+      held = λ s h. ap (λ (l : List Float). table l s) e ∙ getD-replicate (length ends) s plusZero nan (omega (arith, lent .of-ends));
+      so-far = refl;
+      unclosed = λ i h. absurd (not-suc-le-zero h);
+    }
+
+-- the first pass that closes is the last one run
+module _ {A : Type 0} (X : Trellis A) where
+  last-closing : (k : ℕ) → k ≤ 2 → ((i : ℕ) → i < k → closesIn X i ≡ false) → closesIn X k ≡ true → last X ≡ k
+  unfolding last
+  last-closing zero h unmet e = rw e
+  last-closing (suc zero) h unmet e = rw (unmet 0 (omega arith), e)
+  last-closing (suc (suc zero)) h unmet e = rw (unmet 0 (omega arith), unmet 1 (omega arith))
+  last-closing (suc (suc (suc k))) h unmet e = absurd (omega arith)
+
+  pub search-closing : (k : ℕ) → k ≤ 2 → ((i : ℕ) → i < k → closesIn X i ≡ false) → closesIn X k ≡ true → search X ≡ wordIn X (closing (suc k)) k
+  unfolding search
+  search-closing k h unmet e =
+      let l = last-closing k h unmet e in
+      ap (λ (m : ℕ). choose (closesIn X m) (wordIn X (closing (suc m)) m) (settled X (best X 3))) l
+      ∙ ap (λ (t : Bool). choose t (wordIn X (closing (suc k)) k) (settled X (best X 3))) e
+
+  pub search-settled : ((i : ℕ) → i < 3 → closesIn X i ≡ false) → search X ≡ settled X (best X 3)
+  unfolding search last
+  search-settled unmet = rw (unmet 0 (omega arith), unmet 1 (omega arith)) (ap (λ (t : Bool). choose t (wordIn X (closing 3) 2) (settled X (best X 3))) (unmet 2 (omega arith)))
+
+-- a pass has run from there
+module _ {metrics ends second start : List Float} {decisions : List ℕ} {b : Best} {k : ℕ} (begun : Begun metrics ends second start decisions b k)
+    {ends′ : List Float} {decisions′ : List ℕ} {t : Traceback} (passed : Passed metrics (table ends) ends′ decisions′ t) where
+  here : Passed metrics (begin (over metrics) k) ends′ decisions′ t
+  here = passed-same metrics (begun .held) passed
+
+  closed-is : t .closed ≡ closesIn (over metrics) k
+  unfolding closesIn
+  closed-is = here .closed
+
+  -- the word is out
+  pub out : t .closed ≡ true → record { how = closing (suc k); word = t .word; score = t .score } ≡ search (over metrics)
+  out e = ap₂ (λ (w : ℕ) (x : Float). record { how = closing (suc k); word = w; score = x }) (here .word) (here .score)
+      ∙ sym (search-closing (over metrics) k (begun .few) (begun .unclosed) (sym closed-is ∙ e))
+
+  -- its candidates are counted in
+  pub counted : {start′ : List Float} (b′ : Best) → start′ ≡ ends
+      → kept b′ ≡ scanned (packed decisions′) (stepsIn metrics) (table ends′) (table start′) (kept b) 16384 → kept b′ ≡ best (over metrics) (suc k)
+  unfolding best
+  counted {start′} b′ e c =
+      c ∙ scanned-same metrics (begin (over metrics) k) (here .ran) start′ (λ s h. ap (λ (l : List Float). table l s) e ∙ begun .held s h) (kept b) 16384 (omega arith)
+      ∙ ap (λ (o : Option (Candidate Float)). candidates (over metrics) (begin (over metrics) k) o 16384) (begun .so-far)
+
+  unclosed-too : t .closed ≡ false → (i : ℕ) → i < suc k → closesIn (over metrics) i ≡ false
+  unclosed-too e i h = below-more (λ (i : ℕ). closesIn (over metrics) i ≡ false) k (begun .unclosed) (sym closed-is ∙ e) i (omega arith)
+
+  -- the next pass begins
+  pub next : {second′ start′ low : List Float} (b′ : Best) → t .closed ≡ false → suc k ≤ 2 → kept b′ ≡ best (over metrics) (suc k)
+      → ((s : ℕ) → s < 16384 → table low s ≡ sub binary32 (table ends′ s) (t .top))
+      → Lent metrics low second′ start′ decisions′ → Begun metrics low second′ start′ decisions′ b′ (suc k)
+  unfolding begin
+  next b′ e h c lowers lent =
+      record {
+        lent = lent;
+        few = h;
+        held = λ s l. lowers s l ∙ ap₂ (sub binary32) (here .ran .held .at s l) (here .top);
+        so-far = c;
+        unclosed = unclosed-too e;
+      }
+
+  -- or three passes are over
+  pub over-all : (b′ : Best) → t .closed ≡ false → k ≡ 2 → kept b′ ≡ best (over metrics) (suc k) → settledBy (kept b′) (t .word) (t .score) ≡ search (over metrics)
+  unfolding settled
+  over-all b′ e two c =
+      let three : best (over metrics) (suc k) ≡ best (over metrics) 3 = ap (λ (n : ℕ). best (over metrics) (suc n)) two in
+      ap (λ (o : Option (Candidate Float)). settledBy o (t .word) (t .score)) (c ∙ three) ∙ by (best (over metrics) 3)
+      ∙ sym (search-settled (over metrics) (λ i h. unclosed-too e i (omega arith)))
+    where
+      at-two : wordIn (over metrics) unclosed k ≡ wordIn (over metrics) unclosed 2
+      at-two = ap (wordIn (over metrics) unclosed) two
+
+      by : (o : Option (Candidate Float)) → settledBy o (t .word) (t .score) ≡ settled (over metrics) o
+      by none = ap₂ (λ (w : ℕ) (x : Float). record { how = unclosed; word = w; score = x }) (here .word) (here .score) ∙ at-two
+      by (some x) = refl

@@ -1,0 +1,34 @@
+-- `search::found_by` meets its contract: what is read off the areas is the pass's own (`passed`). Assumes nothing.
+use borrow.Author.Needs.{needs}
+use Rattle.search.proofs.Passes.{passed}
+use Rattle.search.proofs.found_by.Statement.{statement}
+use Rattle.search.proofs.found_by.Tie as tie
+
+end-state-requires : tie.Need-end-state-requires
+end-state-requires c κs = search needs
+
+mul-top : tie.Need-mul-top
+mul-top c = search needs
+
+shared-slice-read-top : tie.Need-shared-slice-read-top
+shared-slice-read-top c = search needs
+
+trace-requires : tie.Need-trace-requires
+trace-requires c κs = search needs
+
+mul-t9 : tie.Need-mul-t9
+mul-t9 c = search needs
+
+shared-slice-read-t11 : tie.Need-shared-slice-read-t11
+shared-slice-read-t11 c = search needs
+
+returns : tie.Need-returns
+returns c =
+    let at = c .before .before .before .before .before .before .before .before in
+    let end = c .before .before .before .end-state in
+    let t = c .before .trace in
+    passed (at .args .metrics .now) (at .args .start .now) (at .args .ends .now) (at .args .decisions .now) (end .result) (t .result .word) (t .result .start)
+    (at .pre .1 .1) (end .ensures .0) (end .ensures .1) (t .ensures .0) (t .ensures .1)
+
+pub found-by-spec : {M : Type 1} → statement M
+found-by-spec = tie.close (tie.spec end-state-requires mul-top shared-slice-read-top trace-requires mul-t9 shared-slice-read-t11 returns)

@@ -1,0 +1,133 @@
+// A header read by a record: what is 64 + part + 3·(kind + 3·mode), and the argument is a seed. The terms are small whole
+// numbers worked out from the seed, with the values of a header raised by up to 7.
+ghost use lib.ListN.{length};
+ghost use mathlib.Core.Path.{_≡_};
+
+const NONE: u64 = 0x1_0000_0000;
+
+fn small(x: u64) -> f32 {
+    ((x % 5) as u16) as f32 - 2.0
+}
+
+fn fill(seed: u64, terms: &mut [f32]) {
+    for i in 0..terms.len() {
+        terms[i] = small(probe::probe_mix64(seed ^ ((i as u64) << 8)));
+    }
+}
+
+fn raise_one(terms: &mut [f32], s: usize, bin: u64, strength: f32)
+    ensures { λ _. ⌜ length (now (terms .exit)) ≡ length (now (terms .entry)) ⌝ }
+{
+    if s < 64 {
+        if bin < 48 {
+            let at = 260 * s + 104 + (bin as usize) + 2;
+            if at < terms.len() {
+                terms[at] = terms[at] + strength;
+            }
+        }
+    }
+}
+
+// The sent value's term in row 2 of each symbol.
+fn raise(mode: u8, seed: u64, values: &[u8], terms: &mut [f32]) {
+    let strength = ((seed % 8) as u16) as f32;
+    for s in 0..values.len() {
+        raise_one(
+            terms,
+            s,
+            probe::probe_bin(mode, s as u64, values[s]),
+            strength,
+        );
+    }
+}
+
+fn wide(x: u32) -> u64 {
+    x as u64
+}
+
+fn bits(score: f32) -> u64 {
+    if score == score {
+        return wide(f32::to_bits(score));
+    }
+    NONE
+}
+
+fn told(part: u8, answer: &[u64; 3], score: f32) -> u64 {
+    match part {
+        0 => answer[0],
+        1 => std::num::wrapping_add_u64(answer[1], answer[2] << 4),
+        _ => bits(score),
+    }
+}
+
+// Reads the header of the lent bits, with lists of its kind's lengths.
+fn read(
+    mode: u8,
+    kind: u8,
+    seed: u64,
+    part: u8,
+    bits: &[u8],
+    values: &mut [u8],
+    terms: &mut [f32],
+    decisions: &mut [u64],
+) -> u64 {
+    if probe::probe_header_values(mode, kind, bits, values) != 0 {
+        return NONE;
+    }
+    fill(seed, terms);
+    raise(mode, seed, values, terms);
+    let mut ends = [0.0f32; 16384];
+    let mut second = [0.0f32; 16384];
+    let mut start = [0.0f32; 16384];
+    let mut answer = [0u64; 3];
+    let mut score = [0.0f32; 1];
+    let refused = probe::probe_read_header(
+        mode,
+        kind,
+        terms,
+        &mut ends,
+        &mut second,
+        &mut start,
+        decisions,
+        &mut answer,
+        &mut score,
+    );
+    if refused != 0 {
+        return refused;
+    }
+    told(part, &answer, score[0])
+}
+
+pub fn header(what: u8, seed: u64) -> u64 {
+    if what < 64 {
+        return NONE;
+    }
+    let rest = what - 64;
+    let kind = rest / 3 % 3;
+    let bits = crate::bits_of(probe::probe_mix64(seed));
+    let mut values = [0u8; 64];
+    let mut terms = [0.0f32; 16640];
+    let mut decisions = [0u64; 16384];
+    if kind == 1 {
+        return read(
+            rest / 9,
+            kind,
+            seed,
+            rest % 3,
+            &bits,
+            &mut values,
+            &mut terms,
+            &mut decisions,
+        );
+    }
+    read(
+        rest / 9,
+        kind,
+        seed,
+        rest % 3,
+        &bits[..48],
+        &mut values[..48],
+        &mut terms[..12480],
+        &mut decisions[..12288],
+    )
+}
