@@ -3,6 +3,7 @@
 use ion::phy_mfsk::hook::{Fmt, Kind, MfskMode, air, windows};
 mod read;
 mod sent;
+mod soft;
 
 // A lent slice is two arguments, its first element and its length.
 unsafe extern "C" {
@@ -182,6 +183,7 @@ fn main() {
     air_order(&mut wrong);
     numbers(&mut wrong);
     sent::all(&mut wrong);
+    soft::all(&mut wrong);
     let headers = std::env::args().nth(1).map_or(2_400, |n| n.parse().expect("how many headers of each style"));
     read::all(&mut wrong, headers);
     std::process::exit(wrong as i32);

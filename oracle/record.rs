@@ -1,5 +1,5 @@
 // Writes recorded answers of the Rust to standard output, for crates/vectors/stdin: 17 bytes a record.
-use ion::phy_mfsk::hook::{Fmt, Kind, MfskMode, Terms, air, code, decode_terms, decode_terms_told, windows};
+use ion::phy_mfsk::hook::{Fmt, Kind, MfskMode, Terms, air, code, decode_terms, decode_terms_told, soft_terms, windows};
 use std::io::Write;
 
 /// The terms that crates/vectors works out from a seed: whole numbers from -2 to 2, with the values of a header raised by up to 7.
@@ -12,6 +12,16 @@ fn terms(mode: MfskMode, kind: Kind, seed: u64) -> Vec<Terms> {
         t[260 * s + 104 + fmt.tone_bin(fmt.hop(s), 0, v[0] as usize) + 2] += (seed % 8) as f32;
     }
     t.chunks(260).map(|s| std::array::from_fn(|r| std::array::from_fn(|p| s[52 * r + p]))).collect()
+}
+
+/// The digest that crates/vectors makes of a burst's metrics and soft bits, its terms and counts worked out from a seed.
+fn burst(mode: MfskMode, kind: Kind, symbols: bool, window: usize, bits: usize, seed: u64) -> u64 {
+    let n = bits.div_ceil(5);
+    let flat: Vec<f32> = (0..260 * n as u64).map(|i| ((air::mix64(seed ^ i << 32) % 401) as f32 - 200.0) / 16.0).collect();
+    let terms: Vec<Terms> = flat.chunks(260).map(|s| std::array::from_fn(|r| std::array::from_fn(|p| s[52 * r + p]))).collect();
+    let blanked: Vec<f32> = (0..n as u64).map(|i| ((air::mix64(seed ^ i << 48) % 8) as usize * window) as f32 / (7 * window) as f32).collect();
+    let out = soft_terms(mode, symbols, air::header_info_bits(kind), bits, &terms, &blanked);
+    out.metrics.iter().chain(&out.llrs).fold(seed, |h, x| air::mix64(h ^ x.to_bits() as u64))
 }
 
 fn main() {
@@ -74,6 +84,17 @@ fn main() {
                 let word = bits.iter().rev().fold(0, |w, &b| w << 1 | b as u64);
                 for (part, answer) in [word, how as u64 + 16 * pass as u64, score.to_bits() as u64].into_iter().enumerate() {
                     put((64 + part + 3 * (k + 3 * m)) as u8, seed, answer);
+                }
+            }
+        }
+    }
+    for (m, mode) in [MfskMode::R0, MfskMode::R1].into_iter().enumerate() {
+        for (k, kind) in [Kind::HeaderOnly, Kind::Data, Kind::Cue].into_iter().enumerate() {
+            for form in 0..2u64 {
+                for (i, bits) in [0, 1, 2, 5, 6, 31, 64, 320].into_iter().enumerate() {
+                    let (number, seed) = (i % 3, 1000 * m as u64 + 100 * k as u64 + 10 * form + i as u64);
+                    let asked = seed | (bits as u64) << 32 | (number as u64) << 48;
+                    put((128 + form + 2 * (k as u64 + 3 * m as u64)) as u8, asked, burst(mode, kind, form == 1, windows(mode)[number], bits, seed));
                 }
             }
         }

@@ -1,4 +1,4 @@
-// The program of the edge list: SplitMix64's published outputs, compared and printed. The ★ entries
+// The program of the edge list: SplitMix64's published outputs, compared and printed, and symbols by bits. The ★ entries
 // of document 01's edge list are proved in proofs/Stars.antt.
 // The first outputs from two seeds, as published with SplitMix64.
 const FROM_1234567: [u64; 5] = [
@@ -54,9 +54,21 @@ fn series(seed: u64, published: &[u64]) {
     say::tally(agreeing(seed, published), published.len());
 }
 
+// The symbols of a burst of so many bits.
+fn symbols(bits: u32) {
+    say::number(bits as u64);
+    say::text(b" bits: ");
+    say::number(soft::symbols_of(bits));
+    say::text(b" symbols\n");
+}
+
 fn main() {
     let from_1234567 = FROM_1234567;
     let from_0 = FROM_0;
     series(1234567, &from_1234567);
     series(0, &from_0);
+    symbols(1);
+    symbols(5);
+    symbols(6);
+    symbols(10240);
 }

@@ -22,6 +22,12 @@ some-bins mode = by (eqb mode 0)
     by true = (lit≤ tt, lit≤ tt)
     by false = (lit≤ tt, lit≤ tt)
 
+pub bins-some : (mode : ℕ) → 0 < formatOf mode .bins
+bins-some mode = omega (arith, some-bins mode .0)
+
+pub bins-most : (mode : ℕ) → formatOf mode .bins ≤ 48
+bins-most mode = some-bins mode .1
+
 pub hop-below : (bins i : ℕ) → 0 < bins → hopOf bins i < bins
 unfolding hopOf
 hop-below bins i h = mod-lt _ h

@@ -167,3 +167,44 @@ fn told_of(outcome: header::Outcome) -> Told {
         },
     }
 }
+
+// 0 where metrics and soft bits were written, or 2^32 and the refusal's number. `form` is 1 for the symbol form.
+#[no_mangle]
+pub extern "C" fn probe_soft_values(
+    mode: u8,
+    kind: u8,
+    form: u8,
+    window: u32,
+    bits: u32,
+    terms: &[f32],
+    blanked: &[u32],
+    work: &mut [f32],
+    metrics: &mut [f32],
+    out: &mut [f32],
+) -> u64 {
+    match soft::soft_values(
+        mode,
+        kind,
+        form == 1,
+        window,
+        bits,
+        terms,
+        blanked,
+        work,
+        metrics,
+        out,
+    ) {
+        soft::Soft::Done => 0,
+        soft::Soft::Refused(k) => 0x1_0000_0000 + (k as u64),
+    }
+}
+
+#[no_mangle]
+pub extern "C" fn probe_exp(t: f32) -> f32 {
+    soft::exp(t)
+}
+
+#[no_mangle]
+pub extern "C" fn probe_ln_1p(u: f32) -> f32 {
+    soft::ln_1p(u)
+}

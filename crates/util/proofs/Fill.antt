@@ -1,8 +1,8 @@
 -- A list filled upwards, one store or one row a turn, is the list by its places. Assumes nothing.
-use Prim.Native.Nat.{ℕ, zero, suc, _+_, _-_, _*_, _/_, _%_, _≤_, _<_}
+use Prim.Native.Nat.{ℕ, zero, suc, _+_, _-_, _*_, _≤_, _<_}
 use mathlib.Core.Path.{_≡_, refl, sym, ap, ap₂, _∙_}
 use mathlib.Core.Logic.{_⊎_, inl, inr, ⊎-elim}
-use mathlib.Core.List.{List}
+use mathlib.Core.List.{List, _∷_}
 use native.Mathlib.Nat.{ne-of-lt, not-suc-le-zero, eq-zero-or-pos, add-zero, mul-add-div, mul-add-mod-self-left, div-eq-of-lt, mod-eq-of-lt}
 use native.Mathlib.Omega.{arith}
 use borrow.Author.Count.{below-more}
@@ -36,6 +36,11 @@ tabled-at (suc n) (suc i) f d h = tabled-at n i (λ k. f (suc k)) d (omega arith
 pub tabled-only : {A : Type 0} (n : ℕ) (f : ℕ → A) (d : A) (l : List A) → length l ≡ n → ((i : ℕ) → i < n → getD l i d ≡ f i) → l ≡ tabled n f
 tabled-only n f d l e at =
     ext-getD d l (tabled n f) (e ∙ sym (tabled-length n f)) (λ i h. let k : i < n = omega arith in at i k ∙ sym (tabled-at n i f d k))
+
+pub tabled-same : {A : Type 0} (n : ℕ) (f g : ℕ → A) → ((i : ℕ) → i < n → f i ≡ g i) → tabled n f ≡ tabled n g
+unfolding tabled
+tabled-same zero f g e = refl
+tabled-same (suc n) f g e = ap₂ _∷_ (e 0 (omega arith)) (tabled-same n (λ i. f (suc i)) (λ i. g (suc i)) (λ i h. e (suc i) (omega arith)))
 
 -- ---- rows
 -- a row begun, and a store more of it

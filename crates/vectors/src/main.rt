@@ -5,6 +5,7 @@ ghost use lib.ListN.{length};
 ghost use mathlib.Core.Path.{_≡_};
 use libc::STDIN_FILENO;
 
+mod bursts;
 mod read;
 
 const RECORD: usize = 17;
@@ -84,7 +85,10 @@ fn long(what: u8, asked: u64) -> u64 {
     if what < 64 {
         return header(what, asked);
     }
-    read::header(what, asked)
+    if what < 128 {
+        return read::header(what, asked);
+    }
+    bursts::answer(what, asked)
 }
 
 fn answer(what: u8, asked: u64) -> u64 {

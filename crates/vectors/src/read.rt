@@ -45,7 +45,7 @@ fn wide(x: u32) -> u64 {
     x as u64
 }
 
-fn bits(score: f32) -> u64 {
+pub fn bits(score: f32) -> u64 {
     if score == score {
         return wide(f32::to_bits(score));
     }

@@ -1,0 +1,43 @@
+-- `soft::bit_form` meets its contract, by those of its calls. Assumes nothing.
+use borrow.Author.Needs.{needs}
+use lib.ListN.{length}
+use Rattle.soft.proofs.Forms.{bits-made}
+use Rattle.soft.specs.Burst.{heard, valueOf}
+use Rattle.soft.proofs.bit_form.Statement.{statement}
+use Rattle.soft.proofs.bit_form.Tie as tie
+
+all-metrics-requires : tie.Need-all-metrics-requires
+all-metrics-requires c κs = search needs
+
+all-bits-requires : tie.Need-all-bits-requires
+all-bits-requires c κs = search needs
+
+mul-deinterleave : tie.Need-mul-deinterleave
+mul-deinterleave c = search needs
+
+deinterleave-requires : tie.Need-deinterleave-requires
+deinterleave-requires c κs = search needs
+
+same-length : tie.Need-same-length
+same-length c = search needs
+
+same-length-2 : tie.Need-same-length-2
+same-length-2 c = search needs
+
+same-length-3 : tie.Need-same-length-3
+same-length-3 c = search needs
+
+returns : tie.Need-returns
+returns c =
+    let start = c .before .before .before .before .before .before .before .before .before .before .before .before .before .before .before .before .before .before in
+    let a = start .args in
+    let slots = c .before .before .before .before .before .before .before .all-bits .ensures in (
+      slots .0,
+      record {
+        all = c .before .before .before .before .before .before .before .before .before .before .before .all-metrics .ensures;
+        cut = bits-made (length (a .blanked .now)) (length (a .soft .now)) (valueOf (heard (a .mode) (a .kind) (a .window) (a .terms .now) (a .blanked .now))) (c .before .before .before .before .before .before .before .all-bits .last .1 .1 .1 .1 .1 .0) _ (start .pre .enough) (slots .1) (c .before .before .deinterleave .ensures);
+      },
+    )
+
+pub bit-form-spec : {M : Type 1} → statement M
+bit-form-spec = tie.close (tie.spec all-metrics-requires all-bits-requires mul-deinterleave deinterleave-requires same-length same-length-2 same-length-3 returns)

@@ -1,0 +1,72 @@
+-- `soft::plain_bits` meets its contract. The invariant: the soft bits passed are stored. The measure is what is left of them.
+-- Assumes nothing.
+use Prim.Native.Nat.{ℕ, _+_, _*_, _-_, _≤_, _<_}
+use mathlib.Core.Bool.{false}
+use mathlib.Core.Path.{_≡_, refl, _∙_}
+use native.Mathlib.Nat.{not-suc-le-zero}
+use native.Mathlib.Omega.{arith}
+use borrow.Author.Needs.{needs}
+use lib.Ieee.{Float, nan}
+use lib.ListN.{length, getD, length-set}
+use Rattle.soft.specs.Symbol.{softBit}
+use Rattle.util.proofs.Fill.{up-done, tabled-only}
+use Rattle.util.specs.Table.{rows}
+use Rattle.soft.proofs.plain_bits.Statement.{statement}
+use Rattle.soft.proofs.plain_bits.Tie as tie
+
+abbrev Inv-loop : tie.InvT-loop
+Inv-loop metrics soft₀ p₀ p-end soft p =
+    (p ≤ length soft₀) × (length soft ≡ length soft₀)
+    × ((q : ℕ) → q < p → getD soft q nan ≡ rows 5 (λ i k. softBit false (4 - k) (λ v. getD metrics (32 * i + v) nan)) q)
+
+abbrev μ-loop : tie.MeasureT-loop
+μ-loop metrics soft₀ p₀ p-end soft p = length soft₀ - p
+
+loop-holds : tie.Need-loop-holds Inv-loop μ-loop
+loop-holds c = (omega arith, refl, (λ k h. absurd (not-suc-le-zero h)))
+
+sub-k : tie.Need-sub-k Inv-loop μ-loop
+sub-k c = search needs
+
+mul-soft-bit : tie.Need-mul-soft-bit Inv-loop μ-loop
+mul-soft-bit c = search needs
+
+soft-bit-requires : tie.Need-soft-bit-requires Inv-loop μ-loop
+soft-bit-requires c κs = search needs
+
+mul-soft : tie.Need-mul-soft Inv-loop μ-loop
+mul-soft c = search needs
+
+slice-write-soft : tie.Need-slice-write-soft Inv-loop μ-loop
+slice-write-soft c = search needs
+
+add-p : tie.Need-add-p Inv-loop μ-loop
+add-p c = search needs
+
+loop-less : tie.Need-loop-less Inv-loop μ-loop
+loop-less c = search needs
+
+loop-again : tie.Need-loop-again Inv-loop μ-loop
+unfolding rows
+loop-again c =
+    let at = c .before .before in
+    let a = at .before .before .before .args in
+    let p = at .loop .p in
+    let row : ℕ → ℕ → Float = λ i k. softBit false (4 - k) (λ v. getD (a .metrics .now) (32 * i + v) nan) in (
+      omega arith,
+      length-set (at .loop .soft) p (c .soft-bit .result) ∙ at .loop .inv .1,
+      up-done (at .loop .soft) p (c .soft-bit .result) nan (rows 5 row) (omega arith) (c .soft-bit .ensures) (at .loop .inv .2),
+    )
+
+same-length : tie.Need-same-length Inv-loop μ-loop
+same-length c = c .before .loop .inv .1
+
+returns : tie.Need-returns Inv-loop μ-loop
+returns c =
+    let at = c .before in
+    let a = at .before .before .before .args in
+    let row : ℕ → ℕ → Float = λ i k. softBit false (4 - k) (λ v. getD (a .metrics .now) (32 * i + v) nan) in
+    tabled-only (length (a .soft .now)) (rows 5 row) nan (at .loop .soft) (at .loop .inv .1) (λ i h. at .loop .inv .2 i (omega arith))
+
+pub plain-bits-spec : {M : Type 1} → statement M
+plain-bits-spec = tie.close (tie.spec Inv-loop μ-loop loop-holds sub-k mul-soft-bit soft-bit-requires mul-soft slice-write-soft add-p loop-less loop-again same-length returns)

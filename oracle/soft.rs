@@ -1,0 +1,301 @@
+// Metrics and soft bits: the entry against the second half of the Rust's `service_burst` with document 01's two stand-ins inside
+// `lse`, bit for bit; its refusals against document 01's table; and how far the stand-ins lie from the library's functions.
+use super::{KINDS, MODES, REFUSED, Section};
+use ion::phy_mfsk::hook::{Terms, air, blanked_frac, soft_terms, windows};
+
+unsafe extern "C" {
+    fn probe_soft_values(
+        mode: u8, kind: u8, form: u8, window: u32, bits: u32, terms: *const f32, terms_length: usize, blanked: *const u32, blanked_length: usize,
+        work: *mut f32, work_length: usize, metrics: *mut f32, metrics_length: usize, out: *mut f32, out_length: usize,
+    ) -> u64;
+    fn probe_exp(t: f32) -> f32;
+    fn probe_ln_1p(u: f32) -> f32;
+}
+
+/// What is lent: the inputs, and three lists that start with other bits, NaNs with payloads among them.
+#[derive(Clone)]
+struct Lent {
+    mode: u8,
+    kind: u8,
+    form: u8,
+    window: u32,
+    bits: u32,
+    terms: Vec<f32>,
+    blanked: Vec<u32>,
+    work: Vec<f32>,
+    metrics: Vec<f32>,
+    soft: Vec<f32>,
+}
+
+fn patterns(list: &[f32]) -> Vec<u32> {
+    list.iter().map(|x| x.to_bits()).collect()
+}
+
+fn dirty(n: usize, r: &mut Random) -> Vec<f32> {
+    // quiet and signalling NaNs of both signs, and any other pattern
+    (0..n).map(|i| f32::from_bits([0x7f80_0001, 0xffc1_2345, 0x8000_0000, r.next() as u32][i % 4])).collect()
+}
+
+impl Lent {
+    /// A burst with lists of its lengths; terms and counts to be filled.
+    fn new(mode: u8, kind: u8, form: u8, window: u32, bits: u32, r: &mut Random) -> Self {
+        let n = bits.div_ceil(5) as usize;
+        Lent {
+            mode, kind, form, window, bits, terms: vec![0.0; 260 * n], blanked: vec![0; n],
+            work: dirty(32 * n, r), metrics: dirty(32 * n, r), soft: dirty(bits as usize, r),
+        }
+    }
+    fn call(&mut self) -> u64 {
+        let (terms, blanked) = (patterns(&self.terms), self.blanked.clone());
+        let answer = unsafe {
+            probe_soft_values(
+                self.mode, self.kind, self.form, self.window, self.bits, self.terms.as_ptr(), self.terms.len(), self.blanked.as_ptr(), self.blanked.len(),
+                self.work.as_mut_ptr(), self.work.len(), self.metrics.as_mut_ptr(), self.metrics.len(), self.soft.as_mut_ptr(), self.soft.len(),
+            )
+        };
+        assert!(terms == patterns(&self.terms) && blanked == self.blanked);
+        answer
+    }
+    fn say(&self) -> String {
+        let Lent { mode, kind, form, window, bits, .. } = self;
+        format!("mode {mode} kind {kind} form {form} window {window} bits {bits} counts {:?} first terms {:?}", &self.blanked[..self.blanked.len().min(4)], &self.terms[..self.terms.len().min(4)])
+    }
+}
+
+struct Random(u64);
+impl Random {
+    fn next(&mut self) -> u64 {
+        self.0 = self.0.wrapping_add(0x9E37_79B9_7F4A_7C15);
+        air::mix64(self.0)
+    }
+    fn below(&mut self, n: u64) -> u64 {
+        self.next() % n
+    }
+}
+
+/// Terms of one of ten kinds: noise, far apart, at the limit, ties, subnormal and zeros of both signs, one strong tone, whole numbers.
+fn fill_terms(b: &mut Lent, style: u64, r: &mut Random) {
+    let unit = |r: &mut Random| (r.next() >> 40) as f32 / (1u64 << 24) as f32 * 2.0 - 1.0;
+    for (i, t) in b.terms.iter_mut().enumerate() {
+        *t = match style % 10 {
+            0 => unit(r) * 4.0,
+            1 => unit(r) * 1_000_000.0,
+            2 => [1_000_000.0, -1_000_000.0, 999_999.94, -0.0][r.below(4) as usize],
+            3 => [0.0, 1.0, -1.0][r.below(3) as usize],
+            4 => f32::from_bits((r.next() as u32) & 0x807f_ffff),
+            5 => [0.0, -0.0][r.below(2) as usize],
+            6 => if i % 37 == 5 { 30.0 } else { unit(r) },
+            7 => (r.below(41) as f32) - 20.0,
+            8 => unit(r) * 0.01,
+            _ => unit(r) * 40.0,
+        };
+    }
+}
+
+/// Counts: none, at the limit, one above it, in their whole range, or a mix.
+fn fill_counts(b: &mut Lent, style: u64, r: &mut Random) {
+    let half = 7 * b.window / 2;
+    for c in &mut b.blanked {
+        *c = match style % 5 {
+            0 => 0,
+            1 => half,
+            2 => half + 1,
+            3 => r.below(255 * b.window as u64 + 1) as u32,
+            _ => [0, half - 1, half, half + 1, 255 * b.window][r.below(5) as usize],
+        };
+    }
+}
+
+/// One burst on both sides: the answer, and how many metrics, soft bits and places of the work area differ.
+fn burst(s: &mut Section, floats: &mut u64, b: &mut Lent) {
+    let terms: Vec<Terms> = b.terms.chunks_exact(260).map(|t| std::array::from_fn(|j| std::array::from_fn(|e| t[52 * j + e]))).collect();
+    let blanked: Vec<f32> = b.blanked.iter().map(|&c| blanked_frac(c, b.window as usize, 1)).collect();
+    let hsyms = air::header_info_bits(KINDS[b.kind as usize]);
+    let want = soft_terms(MODES[b.mode as usize], b.form == 1, hsyms, b.bits as usize, &terms, &blanked);
+    let answer = b.call();
+    let b = &*b;
+    s.pair(answer, 0, || b.say());
+    let differ = |ours: &[f32], theirs: &[f32]| {
+        (ours.len() != theirs.len()) as u64 + ours.iter().zip(theirs).filter(|(x, y)| x.to_bits() != y.to_bits()).count() as u64
+    };
+    s.pair(differ(&b.metrics, &want.metrics), 0, || b.say());
+    s.pair(differ(&b.soft, &want.llrs), 0, || b.say());
+    s.pair(b.work.iter().filter(|x| x.to_bits() != 0).count() as u64, 0, || b.say());
+    let bounded = b.metrics.iter().all(|x| (-40.0..=0.0).contains(x)) && b.soft.iter().all(|x| (-12.0..=12.0).contains(x));
+    s.pair(bounded as u64, 1, || b.say());
+    *floats += (b.metrics.len() + b.soft.len()) as u64;
+}
+
+fn bursts(wrong: &mut bool) {
+    let mut r = Random(7);
+    let mut floats = 0;
+    let mut s = Section::new("soft values, 0 to 70 bits, every mode, kind, form and window (five pairs a burst)");
+    for bits in 0..=70 {
+        for (m, mode) in MODES.into_iter().enumerate() {
+            for window in windows(mode) {
+                for kind in 0..3 {
+                    for form in 0..2 {
+                        let mut b = Lent::new(m as u8, kind, form, window as u32, bits, &mut r);
+                        let style = r.next();
+                        fill_terms(&mut b, style, &mut r);
+                        fill_counts(&mut b, style / 10, &mut r);
+                        burst(&mut s, &mut floats, &mut b);
+                    }
+                }
+            }
+        }
+    }
+    s.end(wrong);
+    let mut s = Section::new("soft values, 10,235 to 10,240 bits, and 400 bursts of any length");
+    for i in 0..424u64 {
+        let m = i as usize % 2;
+        let bits = if i < 24 { 10_235 + (i / 4) as u32 } else { r.below(10_241) as u32 };
+        let window = windows(MODES[m])[r.below(3) as usize] as u32;
+        let mut b = Lent::new(m as u8, r.below(3) as u8, (i / 2 % 2) as u8, window, bits, &mut r);
+        fill_terms(&mut b, i / 4, &mut r);
+        let style = r.next();
+        fill_counts(&mut b, style, &mut r);
+        burst(&mut s, &mut floats, &mut b);
+    }
+    s.end(wrong);
+    println!("  {floats} metrics and soft bits compared bit for bit");
+}
+
+/// The table, worked out here: of several causes the lowest number.
+fn table(b: &Lent) -> u64 {
+    let n = (b.bits as u64).div_ceil(5) as usize;
+    if b.mode > 1 || b.kind > 2 {
+        REFUSED + 1
+    } else if b.bits > 10_240 {
+        REFUSED + 2
+    } else if !windows(MODES[b.mode as usize]).contains(&(b.window as usize)) {
+        REFUSED + 3
+    } else if [b.terms.len(), b.blanked.len(), b.work.len(), b.metrics.len(), b.soft.len()] != [260 * n, n, 32 * n, 32 * n, b.bits as usize] {
+        REFUSED + 4
+    } else if b.terms.iter().any(|t| !(t.abs() <= 1_000_000.0)) {
+        REFUSED + 6
+    } else if b.blanked.iter().any(|&c| c as u64 > 255 * b.window as u64) {
+        REFUSED + 7
+    } else {
+        0
+    }
+}
+
+fn refusals(wrong: &mut bool) {
+    let mut r = Random(11);
+    let mut s = Section::new("soft values, refusals 1, 2, 3, 4, 6, 7 and untouched lists, 60,000 calls");
+    let mut seen = [0u64; 8];
+    for i in 0..60_000u64 {
+        let window = windows(MODES[(i % 2) as usize])[r.below(3) as usize] as u32;
+        let mut b = Lent::new((i % 2) as u8, r.below(3) as u8, r.below(2) as u8, window, r.below(41) as u32, &mut r);
+        let style = r.next();
+        fill_terms(&mut b, style, &mut r);
+        fill_counts(&mut b, style / 10, &mut r);
+        for _ in 0..r.below(3) {
+            let at = r.next() as usize;
+            match r.below(12) {
+                0 => b.mode = [2, 3, 255][at % 3],
+                1 => b.kind = [3, 4, 255][at % 3],
+                2 => b.bits = [10_241, 10_245, u32::MAX, u32::MAX - 4, 1 << 31][at % 5],
+                3 => b.window = [0, 159, 161, 80, 160, u32::MAX, 0x1_0000_00A0u64 as u32][at % 7],
+                4 => b.terms.resize(at % 2000, 0.5),
+                5 => b.blanked.resize(at % 12, 3),
+                6 => b.work.resize(at % 300, 1.0),
+                7 => b.metrics.resize(at % 300, 1.0),
+                8 => b.soft.resize(at % 50, 1.0),
+                9 | 10 if !b.terms.is_empty() => {
+                    let n = b.terms.len();
+                    b.terms[at % n] = [f32::NAN, f32::from_bits(0x7f80_0001), f32::INFINITY, f32::NEG_INFINITY, 1_000_000.06, -1_000_000.06, f32::MAX][(at / n) % 7];
+                }
+                11 if !b.blanked.is_empty() => {
+                    let n = b.blanked.len();
+                    b.blanked[at % n] = [255u32.wrapping_mul(b.window).wrapping_add(1), u32::MAX, 1 << 31][(at / n) % 3];
+                }
+                _ => (),
+            }
+        }
+        let want = table(&b);
+        let before = [patterns(&b.work), patterns(&b.metrics), patterns(&b.soft)];
+        let answer = b.call();
+        s.pair(answer, want, || b.say());
+        if want != 0 {
+            let after = [patterns(&b.work), patterns(&b.metrics), patterns(&b.soft)];
+            s.pair((before != after) as u64, 0, || b.say());
+            seen[(want - REFUSED) as usize] += 1;
+        } else {
+            seen[0] += 1;
+        }
+    }
+    s.end(wrong);
+    println!("  accepted {}, refused by 1, 2, 3, 4, 6, 7: {:?}", seen[0], [seen[1], seen[2], seen[3], seen[4], seen[6], seen[7]]);
+}
+
+fn named(wrong: &mut bool) {
+    let mut r = Random(13);
+    let mut s = Section::new("soft values, the named tests");
+    // one erased symbol, 2 bits: [0.0, -0.0] in bit form, [0.0, 0.0] in symbol form; 560 kept, 561 erased
+    for (form, second) in [(0, -0.0f32), (1, 0.0)] {
+        let mut b = Lent::new(0, 0, form, 160, 2, &mut r);
+        fill_terms(&mut b, 0, &mut r);
+        b.blanked[0] = 561;
+        s.pair(b.call(), 0, || b.say());
+        s.pair(b.soft[0].to_bits() as u64, 0, || b.say());
+        s.pair(b.soft[1].to_bits() as u64, second.to_bits() as u64, || b.say());
+        let mut kept = b.clone();
+        kept.blanked[0] = 560;
+        s.pair(kept.call(), 0, || kept.say());
+        s.pair((kept.soft == [0.0, 0.0]) as u64, 0, || kept.say());
+    }
+    // 0 bits
+    for form in 0..2 {
+        let mut b = Lent::new(1, 1, form, 112, 0, &mut r);
+        s.pair(b.call(), 0, || b.say());
+    }
+    // exp just below -16 and at it
+    let below = f32::from_bits((-16.0f32).to_bits() + 1);
+    s.pair(unsafe { probe_exp(below) }.to_bits() as u64, 0, || format!("exp {below}"));
+    s.pair((unsafe { probe_exp(-16.0) } > 0.0) as u64, 1, || "exp -16".into());
+    // two inputs that differ only in erased symbols' terms
+    for i in 0..200u64 {
+        let mut b = Lent::new((i % 2) as u8, 1, (i / 2 % 2) as u8, 112 * (2 - i as u32 % 2), 1 + r.below(200) as u32, &mut r);
+        fill_terms(&mut b, i, &mut r);
+        fill_counts(&mut b, 4, &mut r);
+        let mut other = b.clone();
+        for (i, t) in other.terms.iter_mut().enumerate() {
+            if 2 * b.blanked[i / 260] > 7 * b.window {
+                *t = (r.below(2_000_001) as f32) - 1_000_000.0;
+            }
+        }
+        s.pair(b.call(), other.call(), || b.say());
+        let same = patterns(&b.soft) == patterns(&other.soft) && patterns(&b.metrics) == patterns(&other.metrics) && patterns(&b.work) == patterns(&other.work);
+        s.pair(same as u64, 1, || b.say());
+    }
+    s.end(wrong);
+}
+
+/// The stand-ins themselves against document 01's text in Rust, and their distance to the library's own.
+fn standins(wrong: &mut bool) {
+    let mut s = Section::new("exp and ln_1p stand-ins, every 512th float of their range");
+    let (mut far_exp, mut far_ln) = (0f64, 0f64);
+    for bits in (0..=0x4188_0000u32).step_by(512) {
+        let t = -f32::from_bits(bits);
+        let e = unsafe { probe_exp(t) };
+        s.pair(e.to_bits() as u64, air::paper_exp(t).to_bits() as u64, || format!("exp {t}"));
+        far_exp = far_exp.max((e as f64 - (t as f64).exp()).abs());
+        if bits <= 0x3f80_0000 {
+            let u = f32::from_bits(bits);
+            let l = unsafe { probe_ln_1p(u) };
+            s.pair(l.to_bits() as u64, air::paper_ln_1p(u).to_bits() as u64, || format!("ln_1p {u}"));
+            far_ln = far_ln.max((l as f64 - (u as f64).ln_1p()).abs());
+        }
+    }
+    s.end(wrong);
+    println!("  greatest distance to the library's (f64): exp {far_exp:e}, ln_1p {far_ln:e}");
+}
+
+pub fn all(wrong: &mut bool) {
+    named(wrong);
+    standins(wrong);
+    bursts(wrong);
+    refusals(wrong);
+}
