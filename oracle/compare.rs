@@ -1,6 +1,7 @@
 // Holds the proved parts against the Rust, exhaustively where that is possible, and prints counts.
 // A section that differs prints its smallest input, and the run ends with status 1. The argument is how many headers of each style are read.
 use ion::phy_mfsk::hook::{Fmt, Kind, MfskMode, air, windows};
+mod drift;
 mod read;
 mod sent;
 mod soft;
@@ -176,6 +177,10 @@ fn main() {
         return read::time(1_000);
     }
     let mut wrong = false;
+    drift::all(&mut wrong);
+    if cfg!(unchanged_sums) {
+        std::process::exit(wrong as i32);
+    }
     multipliers(&mut wrong);
     crcs(&mut wrong);
     crc_refusals(&mut wrong);

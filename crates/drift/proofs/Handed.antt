@@ -1,0 +1,57 @@
+-- What `step` hands back, refused or done, meets its contract: by the outcome. Assumes nothing.
+use Prim.Native.Nat.{ℕ}
+use mathlib.Core.Bool.{Bool, true, false}
+use mathlib.Core.List.{List}
+use mathlib.Core.Path.{_≡_, refl, sym, ap, _∙_}
+use native.Mathlib.Nat.{le-of-eq}
+use lib.IntN.{ℤ}
+use lib.ListN.{length, set}
+use lib.Seq.{set-out}
+use Rattle.util.specs.Choose.{choose}
+use Rattle.util.specs.Refusal.{Outcome, refused, accepted, afterwards}
+use Rattle.drift.specs.Tracker.{storedOf, pushedOnto}
+use Rattle.drift.specs.Inside.{answerIn, callIn, Steps}
+use Rattle.drift.specs.declared.Block.{Block}
+use Rattle.drift.specs.declared.Gathered.{Gathered}
+use Rattle.drift.specs.declared.Moved.{Moved}
+use Rattle.drift.specs.declared.Sample.{Sample}
+use Rattle.drift.specs.declared.Stepped.{Stepped}
+use Rattle.drift.specs.declared.Tracker.{Tracker}
+use Rattle.drift.specs.declared.Tracked.the-variants.{Done, Refused}
+
+module _ (mode : ℕ) (t : Tracker) (shifts : List ℤ) (room : ℕ) (g : Gathered) (s : Sample) where
+  -- under a known outcome
+  under : {B : Type 0} {o : Outcome Unit} (was new : B) → answerIn mode t shifts room g s ≡ o → afterwards o was new ≡ afterwards (answerIn mode t shifts room g s) was new
+  under was new e = ap (λ (o : Outcome Unit). afterwards o was new) (sym e)
+
+  abbrev refusal : ℕ → Block → Stepped
+  refusal k b = record { next = t; answer = Refused k; at = room; block = b; done = false }
+
+  pub steps-refused : (k : ℕ) (b : Block) → answerIn mode t shifts room g s ≡ refused k → Steps mode t shifts room g s (refusal k b) shifts
+  steps-refused k b e =
+      record {
+        answer = sym e;
+        tracker = under t (callIn mode t shifts g s .tracker) e;
+        stored = under shifts (storedOf t shifts) e;
+        blocks = λ bs l. set-out bs room b (le-of-eq l) ∙ under bs (pushedOnto t bs (callIn mode t shifts g s)) e;
+      }
+
+  abbrev finished : Moved → ℕ → Stepped
+  finished m at = record { next = m .tracker; answer = Done; at = at; block = m .block; done = true }
+
+  -- a block goes to its place, or nowhere
+  placed : (pushed : Bool) (b : Block) (bs : List Block) → length bs ≡ room → set bs (choose pushed (t .blocks) room) b ≡ choose pushed (set bs (t .blocks) b) bs
+  placed true b bs l = refl
+  placed false b bs l = set-out bs room b (le-of-eq l)
+
+  pub steps-done : (m : Moved) (at : ℕ) (last : List ℤ) → answerIn mode t shifts room g s ≡ accepted tt → m ≡ callIn mode t shifts g s → at ≡ choose (m .pushed) (t .blocks) room → last ≡ storedOf t shifts
+      → Steps mode t shifts room g s (finished m at) last
+  steps-done m at last e made place stored =
+      record {
+        answer = sym e;
+        tracker = ap (λ (r : Moved). r .tracker) made ∙ under t (callIn mode t shifts g s .tracker) e;
+        stored = stored ∙ under shifts (storedOf t shifts) e;
+        blocks = λ bs l.
+            ap (λ (p : ℕ). set bs p (m .block)) place ∙ placed (m .pushed) (m .block) bs l ∙ ap (pushedOnto t bs) made
+            ∙ under bs (pushedOnto t bs (callIn mode t shifts g s)) e;
+      }

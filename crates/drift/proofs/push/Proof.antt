@@ -1,0 +1,33 @@
+-- `drift::push` meets its contract: what its two tests give, put together. Assumes nothing.
+use borrow.Author.Needs.{needs}
+use lib.Ieee.{ofBits, ofInt}
+use Rattle.drift.proofs.push.Statement.{statement}
+use Rattle.drift.proofs.push.Tie as tie
+
+int-to-float-places : tie.Need-int-to-float-places
+int-to-float-places c = search needs
+
+mul-places : tie.Need-mul-places
+mul-places c = search needs
+
+array-write-places : tie.Need-array-write-places
+array-write-places c = search needs
+
+mul-timings : tie.Need-mul-timings
+mul-timings c = search needs
+
+array-write-timings : tie.Need-array-write-timings
+array-write-timings c = search needs
+
+greater-requires : tie.Need-greater-requires
+greater-requires c κs = search needs
+
+still-good-requires : tie.Need-still-good-requires
+still-good-requires c κs = search needs
+
+returns : tie.Need-returns
+unfolding ofBits ofInt
+returns c = simp (c .still-good .ensures, c .before .greater .ensures)
+
+pub push-spec : {M : Type 1} → statement M
+push-spec = tie.close (tie.spec int-to-float-places mul-places array-write-places mul-timings array-write-timings greater-requires still-good-requires returns)

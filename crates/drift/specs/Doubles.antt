@@ -1,0 +1,40 @@
+-- f64 arithmetic as the definitions write it. Every operation is rounded once, left to right.
+use Prim.Native.Nat.{ℕ, zero, suc}
+use mathlib.Core.Bool.{Bool, true, false, _&&_}
+use lib.IntN.{pos}
+use lib.Ieee.{Float, binary64, round, ofInt, add, sub, mul, div, neg, le}
+use Rattle.ieee.specs.Whole.{plusZero, run}
+
+infixl 6 _⊕_ _⊖_
+infixl 7 _⊗_ _⊘_
+abbrev pub _⊕_ : Float → Float → Float
+_⊕_ x y = add binary64 x y
+
+abbrev pub _⊖_ : Float → Float → Float
+_⊖_ x y = sub binary64 x y
+
+abbrev pub _⊗_ : Float → Float → Float
+_⊗_ x y = mul binary64 x y
+
+abbrev pub _⊘_ : Float → Float → Float
+_⊘_ x y = div binary64 x y
+
+-- a whole number as an f64, and the f64 nearest to a / b
+abbrev pub whole : ℕ → Float
+whole n = ofInt binary64 (pos n)
+
+abbrev pub nearest : ℕ → ℕ → Float
+nearest a b = round binary64 false a b
+
+-- x 0, x 1 and so on to x (n - 1), from the left, from 0.0
+abbrev pub sum : (ℕ → Float) → ℕ → Float
+sum x n = run (add binary64) plusZero x n
+
+-- x lies within ±most; a NaN does not
+abbrev pub within : Float → Float → Bool
+within most x = le (neg most) x && le x most
+
+-- the test holds at 0, 1 and so on to n - 1
+unfoldable pub every : ℕ → (ℕ → Bool) → Bool
+every zero f = true
+every (suc n) f = every n f && f n
