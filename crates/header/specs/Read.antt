@@ -8,7 +8,6 @@ use lib.Ieee.{Float}
 use lib.ListN.{length, replicate}
 use Rattle.util.specs.Refusal as Refusal
 use Rattle.util.specs.Refusal.{Cause, refused, accepted, outcome, afterwards}
-use Rattle.ieee.specs.Whole.{plusZero}
 use Rattle.frame.specs.Format.{named, headerBits}
 use Rattle.model.specs.Range.{someOut}
 use Rattle.trellis.specs.Answer as Answer

@@ -2,11 +2,10 @@
 // carries demand 3. Definitions in specs/ and in crate trellis.
 ghost use mathlib.Core.Path.{_≡_};
 ghost use mathlib.Core.Bool.{false};
-ghost use Prim.Native.Nat.{ℕ, _+_, _*_, _≤_, _<_};
+ghost use Prim.Native.Nat.{ℕ, _+_, _*_, _<_};
 ghost use lib.IntN.{ℤ};
 ghost use lib.Ieee.{nan};
 ghost use lib.ListN.{length, getD, replicate};
-ghost use Rattle.util.specs.Refusal.{accepted};
 ghost use Rattle.util.specs.Table.{Stored};
 ghost use Rattle.ieee.specs.Whole.{plusZero};
 ghost use Rattle.frame.specs.Format.{headerBits};

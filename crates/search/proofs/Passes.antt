@@ -1,15 +1,13 @@
 -- A pass whole, and the passes one after another: from what the areas hold to the search of crate trellis. Assumes nothing.
 use Prim.Native.Nat.{ℕ, zero, suc, _+_, _*_, _<_, _≤_}
-use mathlib.Core.Bool.{Bool, _&&_}
 use mathlib.Core.List.{List}
-use mathlib.Core.Option.{Option, some}
-use mathlib.Core.Path.{_≡_, refl, sym, ap, ap₂, _∙_}
+use mathlib.Core.Option.{Option}
+use mathlib.Core.Path.{_≡_, refl, ap, ap₂, _∙_}
 use native.Mathlib.Omega.{arith}
 use lib.Dec.{eqb, lit≤}
 use lib.Ieee.{Float, sub, binary32}
-use Rattle.util.specs.Choose.{choose}
 use Rattle.trellis.specs.Scale.{Scale, highest}
-use Rattle.trellis.specs.Search.{Candidate, traceStart, traceWord, decision, final, endState, startOf, wordOf, closes, scoreOf, beats, candidates}
+use Rattle.trellis.specs.Search.{Candidate, traceStart, traceWord, final, endState, startOf, wordOf, closes, scoreOf, candidates}
 use Rattle.trellis.specs.Numbers.{single}
 use Rattle.trellis.proofs.Paths.{trace-start-cong, trace-word-cong}
 use Rattle.trellis.proofs.Alike.{Follows, Alike, final-alike, decision-alike, end-alike, word-alike, closes-alike, score-alike}

@@ -12,8 +12,8 @@ use lib.ListN.{length, replicate, length-replicate, getD-replicate}
 use Rattle.util.specs.Choose.{choose}
 use Rattle.ieee.specs.Whole.{plusZero}
 use Rattle.trellis.specs.Trellis.{Trellis}
-use Rattle.trellis.specs.Search.{How, closing, unclosed, Candidate, Found, final, endState, lowered, begin, closesIn, last, best, candidates, wordIn, settled, search}
-use Rattle.search.specs.Areas.{table, stepsIn, over, packed, Holds, Lent}
+use Rattle.trellis.specs.Search.{closing, unclosed, Candidate, begin, closesIn, last, best, candidates, wordIn, settled, search}
+use Rattle.search.specs.Areas.{table, stepsIn, over, packed, Lent}
 use Rattle.search.specs.Scan.{scanned}
 use Rattle.search.specs.Passed.{Passed}
 use Rattle.search.specs.Found.{kept, settledBy}

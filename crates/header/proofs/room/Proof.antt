@@ -7,7 +7,6 @@ use borrow.Author.Needs.{needs}
 use borrow.Author.Tests.{eq-eqb, ne-eqb}
 use lib.Dec.{eqb}
 use Rattle.frame.proofs.Air.{header-most}
-use Rattle.frame.specs.Format.{headerBits}
 use Rattle.header.proofs.room.Statement.{statement}
 use Rattle.header.proofs.room.Tie as tie
 

@@ -1,14 +1,12 @@
 -- `header::row` meets its contract: the metrics of the symbol in the step's slot. Assumes nothing.
-use Prim.Native.Nat.{ℕ, _+_, _*_, _≤_, _<_}
-use mathlib.Core.Path.{_≡_, sym, ap, _∙_}
+use Prim.Native.Nat.{ℕ, _<_}
+use mathlib.Core.Path.{_≡_, _∙_}
 use native.Mathlib.Nat.{mul-le-mul-right}
 use native.Mathlib.Omega.{arith}
 use borrow.Author.Needs.{needs}
 use lib.Ieee.{add, binary32}
-use lib.ListN.{length}
 use Rattle.frame.proofs.Air.{some-bins, hop-below, slot-within}
 use Rattle.frame.specs.Air.{binOf, placeOf}
-use Rattle.frame.specs.Air.{hopOf, slotOf}
 use Rattle.frame.specs.Format.{formatOf, headerBits}
 use Rattle.header.specs.Rows.{stepMetric}
 use Rattle.ieee.specs.Whole.{plusZero}

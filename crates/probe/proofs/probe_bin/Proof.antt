@@ -1,5 +1,4 @@
 -- `probe::probe_bin` is safe: a mode has bins, and a hop is one of them. Assumes nothing.
-use mathlib.Core.Path.{_∙_}
 use native.Mathlib.Omega.{arith}
 use borrow.Author.Needs.{needs}
 use Rattle.frame.proofs.Air.{some-bins, hop-below}

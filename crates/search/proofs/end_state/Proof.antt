@@ -1,9 +1,9 @@
 -- `search::end_state` meets its contract. The invariant: the lowest of the greatest among the states passed.
 -- The measure is what is left of them. Assumes nothing.
 use Prim.Native.Nat.{ℕ, _+_, _-_, _≤_, _<_}
-use mathlib.Core.Bool.{Bool, true, false}
+use mathlib.Core.Bool.{true, false}
 use mathlib.Core.Logic.{⊎-elim}
-use mathlib.Core.Path.{_≡_, refl, sym, ap, _∙_}
+use mathlib.Core.Path.{_≡_, refl, _∙_}
 use native.Mathlib.Numerals.{add-one}
 use native.Mathlib.Omega.{arith}
 use borrow.Author.Needs.{needs}
@@ -11,7 +11,6 @@ use lib.Ieee.{Float, lt}
 use Rattle.search.specs.Areas.{table}
 use Rattle.trellis.specs.Numbers.{single}
 use Rattle.trellis.specs.Scale.{highest}
-use Rattle.util.specs.Choose.{choose}
 use Rattle.search.proofs.end_state.Statement.{statement}
 use Rattle.search.proofs.end_state.Tie as tie
 

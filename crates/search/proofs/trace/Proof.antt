@@ -1,12 +1,11 @@
 -- `search::trace` meets its contract. The invariant: what is left to trace, below the word so far, makes up the whole (`Tracing`).
 -- The measure is the steps left. Assumes nothing.
-use Prim.Native.Nat.{ℕ, _+_, _*_, _-_, _/_, _%_, _^_, _≤_, _<_}
+use Prim.Native.Nat.{_+_, _*_, _-_, _^_, _≤_, _<_}
 use mathlib.Core.Bool.{true, false}
-use mathlib.Core.Path.{_≡_, refl, sym, ap, _∙_}
+use mathlib.Core.Path.{_≡_, refl}
 use native.Mathlib.Omega.{arith}
 use borrow.Author.Needs.{needs}
 use borrow.Author.Tests.{eq-eqb, ne-eqb}
-use lib.ListN.{length}
 use Rattle.search.proofs.Bits.{room, longer, none}
 use Rattle.search.proofs.Tracing.{Tracing, tracing-start, tracing-more, tracing-done}
 use Rattle.search.specs.Areas.{packed}

@@ -1,10 +1,5 @@
 -- `search::turn` meets its contract: what the step left in the second area is copied back. Assumes nothing.
-use Prim.Native.Nat.{_*_}
-use mathlib.Core.List.{List}
-use mathlib.Core.Path.{subst, sym}
 use borrow.Author.Needs.{needs}
-use lib.Ieee.{Float}
-use Rattle.search.specs.Areas.{Stepped}
 use Rattle.search.proofs.turn.Statement.{statement}
 use Rattle.search.proofs.turn.Tie as tie
 

@@ -1,0 +1,37 @@
+/* Sends a header, reads it back from clean terms, and shows a refusal. From the repository's root:
+ *   rt staticlib ion
+ *   cc -Iinclude bindings/c/read.c target/staticlib/libion.a -o target/read && target/read
+ */
+#include "ion.h"
+#include <stdio.h>
+
+#define N 48
+
+/* SplitMix64, for the hop of a symbol (document 01, 'Modes and air order'). */
+static uint64_t mix64(uint64_t z) {
+    z += 0x9E3779B97F4A7C15u;
+    z = (z ^ (z >> 30)) * 0xBF58476D1CE4E5B9u;
+    z = (z ^ (z >> 27)) * 0x94D049BB133111EBu;
+    return z ^ (z >> 31);
+}
+
+int main(void) {
+    static float terms[N * 260], scores[16384], next[16384], start[16384];
+    static uint64_t decisions[N * 256];
+    uint8_t bits[N], values[N], outcome, pass;
+    uint64_t word = 0x1234567890ABu, read = 0;
+    float score;
+    for (int j = 0; j < N; j++)
+        bits[j] = word >> j & 1;
+    if (ion_header_values(0, 0, bits, N, values, N) != 0)
+        return 1;
+    for (int s = 0; s < N; s++) /* row 2, at the place of the value's bin */
+        terms[260 * s + 104 + (mix64((uint64_t)s ^ 0x4D46534B484F5000u) % 48 + values[s]) % 48 + 2] = 8.0f;
+    if (ion_read_header(0, 0, terms, N * 260, scores, 16384, next, 16384, start, 16384, decisions, N * 256, &read, &outcome, &pass, &score) != 0)
+        return 1;
+    printf("sent %012llx, read %012llx, outcome %u, pass %u, score %g\n", (unsigned long long)word, (unsigned long long)read, outcome, pass, score);
+    terms[7] = 1e7f;
+    uint32_t refused = ion_read_header(0, 0, terms, N * 260, scores, 16384, next, 16384, start, 16384, decisions, N * 256, &read, &outcome, &pass, &score);
+    printf("with a term of 1e7: refused by number %u\n", refused);
+    return !(read == word && outcome == 0 && pass == 1 && score == 8.0f * N && refused == 6);
+}
