@@ -1,0 +1,265 @@
+//! The proved receiving core of the ion HF modem, in Rust's own manner: slices, enums and `Result` over `include/ion.h`.
+//!
+//! Build the library first: `rt staticlib ion` at the repository's root. Every function takes any input and ends. One that
+//! answers `Err` has written nothing.
+//!
+//! ```
+//! use ion_proved::{Kind, Mode, Refusal};
+//!
+//! assert_eq!(ion_proved::interleave_mult(100), Ok(63));
+//! assert_eq!(ion_proved::interleave_mult(10_241), Err(Refusal::Count));
+//!
+//! let mut values = [0; 48];
+//! assert_eq!(ion_proved::header_values(Mode::R0, Kind::Cue, &[1; 48], &mut values), Ok(()));
+//! assert_eq!(values, [10; 48]);
+//! ```
+use std::fmt;
+
+mod sys {
+    unsafe extern "C" {
+        pub fn ion_interleave_mult(n: u64, mult: *mut u64) -> u32;
+        pub fn ion_crc(mode: u8, kind: u8, bits: *const u8, bits_len: usize, crc: *mut u16) -> u32;
+        pub fn ion_header_values(mode: u8, kind: u8, bits: *const u8, bits_len: usize, values: *mut u8, values_len: usize) -> u32;
+        pub fn ion_read_header(
+            mode: u8, kind: u8, terms: *const f32, terms_len: usize, scores: *mut f32, scores_len: usize, next: *mut f32, next_len: usize,
+            start: *mut f32, start_len: usize, decisions: *mut u64, decisions_len: usize, word: *mut u64, outcome: *mut u8, pass: *mut u8,
+            score: *mut f32,
+        ) -> u32;
+        pub fn ion_soft_values(
+            mode: u8, kind: u8, symbols: u8, window: u32, bits: u32, terms: *const f32, terms_len: usize, blanked: *const u32,
+            blanked_len: usize, work: *mut f32, work_len: usize, metrics: *mut f32, metrics_len: usize, soft: *mut f32, soft_len: usize,
+        ) -> u32;
+    }
+}
+
+/// Terms of a symbol: five rows of 52.
+pub const TERMS: usize = 260;
+/// Values of a symbol.
+pub const VALUES: usize = 32;
+/// States of the header's code.
+pub const STATES: usize = 16_384;
+/// The most bits that soft values are worked out for.
+pub const BITS: u32 = 10_240;
+
+/// The mode of a burst.
+#[derive(Clone, Copy, Debug, PartialEq, Eq, Hash)]
+#[repr(u8)]
+pub enum Mode {
+    /// 48 bins; windows 160, 192, 224.
+    R0 = 0,
+    /// 32 bins; windows 80, 96, 112.
+    R1 = 1,
+}
+
+/// The kind of a burst.
+#[derive(Clone, Copy, Debug, PartialEq, Eq, Hash)]
+#[repr(u8)]
+pub enum Kind {
+    HeaderOnly = 0,
+    Data = 1,
+    Cue = 2,
+}
+
+impl Kind {
+    /// The header's bits, and as many symbols: 48, for [`Kind::Data`] 64.
+    pub const fn header(self) -> usize {
+        match self {
+            Kind::Data => 64,
+            Kind::HeaderOnly | Kind::Cue => 48,
+        }
+    }
+}
+
+/// How soft bits are read from the metrics.
+#[derive(Clone, Copy, Debug, PartialEq, Eq, Hash)]
+#[repr(u8)]
+pub enum Form {
+    Bits = 0,
+    Symbols = 1,
+}
+
+/// Why nothing was done: document 01's causes that can be met here. Of several causes, the one of the lowest number.
+#[derive(Clone, Copy, Debug, PartialEq, Eq, Hash)]
+#[repr(u8)]
+#[non_exhaustive]
+pub enum Refusal {
+    /// A mode or kind that is not named.
+    Name = 1,
+    /// More than 10,240 bits, or a multiplier's length above that.
+    Count = 2,
+    /// A window that the mode does not have.
+    Window = 3,
+    /// A buffer of another length than stated.
+    Length = 4,
+    /// A bit byte above 1.
+    Bit = 5,
+    /// A term that is not finite or lies beyond ±1,000,000.
+    Term = 6,
+    /// A blanked count above 255·window.
+    Blanked = 7,
+}
+
+impl Refusal {
+    /// The number in document 01's table.
+    pub const fn number(self) -> u8 {
+        self as u8
+    }
+
+    fn told(number: u32) -> Result<(), Refusal> {
+        Err(match number {
+            0 => return Ok(()),
+            1 => Refusal::Name,
+            2 => Refusal::Count,
+            3 => Refusal::Window,
+            4 => Refusal::Length,
+            5 => Refusal::Bit,
+            6 => Refusal::Term,
+            7 => Refusal::Blanked,
+            other => unreachable!("no entry here refuses by number {other}"),
+        })
+    }
+}
+
+impl fmt::Display for Refusal {
+    fn fmt(&self, f: &mut fmt::Formatter<'_>) -> fmt::Result {
+        let why = match self {
+            Refusal::Name => "mode or kind not named",
+            Refusal::Count => "more than 10,240",
+            Refusal::Window => "window not of the mode",
+            Refusal::Length => "a buffer has another length than stated",
+            Refusal::Bit => "a bit byte above 1",
+            Refusal::Term => "a term is not finite or beyond ±1,000,000",
+            Refusal::Blanked => "a blanked count above 255 times the window",
+        };
+        write!(f, "refused by number {}: {why}", self.number())
+    }
+}
+
+impl std::error::Error for Refusal {}
+
+/// How a header's word was found.
+#[derive(Clone, Copy, Debug, PartialEq)]
+pub enum Outcome {
+    /// The best word closed in this pass, 1 to 3. Closed in pass 1, no walk beats it.
+    Sure { score: f32, pass: u8 },
+    /// The best closed word that was met on the way.
+    Kept { score: f32 },
+    /// No closed word was met: the best end's word.
+    Open { score: f32 },
+}
+
+/// A header as read: bit j of the header at place j from the lowest.
+#[derive(Clone, Copy, Debug, PartialEq)]
+pub struct Header {
+    pub word: u64,
+    pub outcome: Outcome,
+}
+
+/// The work areas of [`read_header`], made once and lent to every read.
+#[derive(Clone, Debug)]
+pub struct Areas {
+    scores: Vec<f32>,
+    next: Vec<f32>,
+    start: Vec<f32>,
+    decisions: Vec<u64>,
+}
+
+impl Areas {
+    /// Areas for headers of this kind's length.
+    pub fn new(kind: Kind) -> Areas {
+        let states = vec![0.0; STATES];
+        Areas { scores: states.clone(), next: states.clone(), start: states, decisions: vec![0; kind.header() * STATES / 64] }
+    }
+}
+
+/// The multiplier a of the interleaver p ↦ (a·p) mod n, for n to 10,240.
+pub fn interleave_mult(n: u64) -> Result<u64, Refusal> {
+    let mut mult = 0;
+    // SAFETY: `mult` is one place, lent for the call.
+    Refusal::told(unsafe { sys::ion_interleave_mult(n, &mut mult) })?;
+    Ok(mult)
+}
+
+/// The CRC of up to 1,024 bits, a byte each.
+///
+/// ```
+/// use ion_proved::{crc, Kind, Mode, Refusal};
+/// assert_eq!(crc(Mode::R1, Kind::Data, &[0, 1, 2]), Err(Refusal::Bit));
+/// assert_eq!(crc(Mode::R1, Kind::Data, &[0; 1025]), Err(Refusal::Length));
+/// ```
+pub fn crc(mode: Mode, kind: Kind, bits: &[u8]) -> Result<u16, Refusal> {
+    let mut crc = 0;
+    // SAFETY: the slice is told with its own length.
+    Refusal::told(unsafe { sys::ion_crc(mode as u8, kind as u8, bits.as_ptr(), bits.len(), &mut crc) })?;
+    Ok(crc)
+}
+
+/// The symbol values of a header, slot by slot. Both lists have [`Kind::header`] entries.
+pub fn header_values(mode: Mode, kind: Kind, bits: &[u8], values: &mut [u8]) -> Result<(), Refusal> {
+    // SAFETY: both slices are told with their own lengths and cannot overlap.
+    Refusal::told(unsafe { sys::ion_header_values(mode as u8, kind as u8, bits.as_ptr(), bits.len(), values.as_mut_ptr(), values.len()) })
+}
+
+/// Reads a header from [`TERMS`] terms for each of its symbols.
+///
+/// ```
+/// use ion_proved::{read_header, Areas, Kind, Mode, Outcome, Refusal, TERMS};
+/// let mut areas = Areas::new(Kind::Cue);
+/// let mut terms = vec![0.0; 48 * TERMS];
+/// // all terms equal: word 0 closes in the first pass
+/// let header = read_header(Mode::R0, Kind::Cue, &terms, &mut areas).unwrap();
+/// assert_eq!((header.word, header.outcome), (0, Outcome::Sure { score: 0.0, pass: 1 }));
+/// terms[5] = f32::NAN;
+/// assert_eq!(read_header(Mode::R0, Kind::Cue, &terms, &mut areas), Err(Refusal::Term));
+/// // areas made for another length
+/// assert_eq!(read_header(Mode::R0, Kind::Data, &terms, &mut areas), Err(Refusal::Length));
+/// ```
+pub fn read_header(mode: Mode, kind: Kind, terms: &[f32], areas: &mut Areas) -> Result<Header, Refusal> {
+    let Areas { scores, next, start, decisions } = areas;
+    let (mut word, mut outcome, mut pass, mut score) = (0, 0, 0, 0.0);
+    // SAFETY: every slice is told with its own length; they and the four places cannot overlap.
+    Refusal::told(unsafe {
+        sys::ion_read_header(
+            mode as u8, kind as u8, terms.as_ptr(), terms.len(), scores.as_mut_ptr(), scores.len(), next.as_mut_ptr(), next.len(),
+            start.as_mut_ptr(), start.len(), decisions.as_mut_ptr(), decisions.len(), &mut word, &mut outcome, &mut pass, &mut score,
+        )
+    })?;
+    let outcome = match outcome {
+        0 => Outcome::Sure { score, pass },
+        1 => Outcome::Kept { score },
+        _ => Outcome::Open { score },
+    };
+    Ok(Header { word, outcome })
+}
+
+/// Metrics ([`VALUES`] a symbol, each in -40..0) and soft bits (each in -12..12) of a burst's data.
+#[derive(Clone, Debug, PartialEq)]
+pub struct Soft {
+    pub metrics: Vec<f32>,
+    pub bits: Vec<f32>,
+}
+
+/// Soft values of `bits` bits in ceil(bits/5) symbols: [`TERMS`] terms and one blanked count a symbol.
+///
+/// ```
+/// use ion_proved::{soft_values, Form, Kind, Mode, Refusal, TERMS};
+/// // one erased symbol (1,120 of 1,120 blanked) tells nothing; the scramble's sign stays on the second bit
+/// let soft = soft_values(Mode::R0, Kind::HeaderOnly, Form::Bits, 160, 2, &[0.0; TERMS], &[1120]).unwrap();
+/// assert_eq!(soft.bits.iter().map(|x| x.to_bits()).collect::<Vec<_>>(), [0.0_f32.to_bits(), (-0.0_f32).to_bits()]);
+/// assert_eq!(soft_values(Mode::R1, Kind::Data, Form::Bits, 160, 0, &[], &[]), Err(Refusal::Window));
+/// ```
+pub fn soft_values(mode: Mode, kind: Kind, form: Form, window: u32, bits: u32, terms: &[f32], blanked: &[u32]) -> Result<Soft, Refusal> {
+    // more bits than that are refused by their number, whatever the buffers' lengths
+    let count = if bits <= BITS { bits as usize } else { 0 };
+    let symbols = count.div_ceil(5);
+    let mut work = vec![0.0; symbols * VALUES];
+    let mut soft = Soft { metrics: work.clone(), bits: vec![0.0; count] };
+    // SAFETY: every slice is told with its own length; the lent three cannot overlap anything.
+    Refusal::told(unsafe {
+        sys::ion_soft_values(
+            mode as u8, kind as u8, form as u8, window, bits, terms.as_ptr(), terms.len(), blanked.as_ptr(), blanked.len(),
+            work.as_mut_ptr(), work.len(), soft.metrics.as_mut_ptr(), soft.metrics.len(), soft.bits.as_mut_ptr(), soft.bits.len(),
+        )
+    })?;
+    Ok(soft)
+}
