@@ -46,6 +46,12 @@ uint32_t ion_soft_values(uint8_t mode, uint8_t kind, uint8_t symbols, uint32_t w
                          size_t terms_len, const uint32_t *blanked, size_t blanked_len, float *work, size_t work_len,
                          float *metrics, size_t metrics_len, float *soft, size_t soft_len);
 
+/* The drift by up to 64 blocks, whose fields come in two lists of one length: twice the place, 0 to 4,096 and never falling, and
+ * the timing, within +-4,096.
+ * Refused: 1, 4 (two lengths), 10 (over 64 blocks, a block out of range or falling). */
+uint32_t ion_fit_drift(uint8_t mode, const uint32_t *places, size_t places_len, const double *timings, size_t timings_len,
+                       double *drift);
+
 #ifdef __cplusplus
 }
 #endif

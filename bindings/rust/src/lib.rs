@@ -29,6 +29,7 @@ mod sys {
             mode: u8, kind: u8, symbols: u8, window: u32, bits: u32, terms: *const f32, terms_len: usize, blanked: *const u32,
             blanked_len: usize, work: *mut f32, work_len: usize, metrics: *mut f32, metrics_len: usize, soft: *mut f32, soft_len: usize,
         ) -> u32;
+        pub fn ion_fit_drift(mode: u8, places: *const u32, places_len: usize, timings: *const f64, timings_len: usize, drift: *mut f64) -> u32;
     }
 }
 
@@ -97,6 +98,8 @@ pub enum Refusal {
     Term = 6,
     /// A blanked count above 255·window.
     Blanked = 7,
+    /// Over 64 blocks, or a block out of range or falling.
+    Blocks = 10,
 }
 
 impl Refusal {
@@ -115,6 +118,7 @@ impl Refusal {
             5 => Refusal::Bit,
             6 => Refusal::Term,
             7 => Refusal::Blanked,
+            10 => Refusal::Blocks,
             other => unreachable!("no entry here refuses by number {other}"),
         })
     }
@@ -130,6 +134,7 @@ impl fmt::Display for Refusal {
             Refusal::Bit => "a bit byte above 1",
             Refusal::Term => "a term is not finite or beyond ±1,000,000",
             Refusal::Blanked => "a blanked count above 255 times the window",
+            Refusal::Blocks => "over 64 blocks, or a block out of range or falling",
         };
         write!(f, "refused by number {}: {why}", self.number())
     }
@@ -262,4 +267,21 @@ pub fn soft_values(mode: Mode, kind: Kind, form: Form, window: u32, bits: u32, t
         )
     })?;
     Ok(soft)
+}
+
+/// The drift by up to 64 blocks: twice the place of each (0 to 4,096, never falling) and its timing (within ±4,096), in two
+/// lists of one length.
+///
+/// ```
+/// use ion_proved::{fit_drift, Mode, Refusal};
+/// // five blocks are too few for a drift
+/// assert_eq!(fit_drift(Mode::R0, &[0, 40, 80, 120, 160], &[0.0, 1.0, 2.0, 3.0, 4.0]), Ok(0.0));
+/// assert_eq!(fit_drift(Mode::R0, &[40, 0], &[0.0, 0.0]), Err(Refusal::Blocks));
+/// assert_eq!(fit_drift(Mode::R0, &[40, 0], &[0.0]), Err(Refusal::Length));
+/// ```
+pub fn fit_drift(mode: Mode, places: &[u32], timings: &[f64]) -> Result<f64, Refusal> {
+    let mut drift = 0.0;
+    // SAFETY: both slices are told with their own lengths.
+    Refusal::told(unsafe { sys::ion_fit_drift(mode as u8, places.as_ptr(), places.len(), timings.as_ptr(), timings.len(), &mut drift) })?;
+    Ok(drift)
 }

@@ -237,7 +237,7 @@ pub fn push(g: Gathered, i: usize, b: Block) -> Gathered
 }
 
 // Inside: how many of a list of blocks the fit reads.
-fn counted(length: usize) -> usize
+pub fn counted(length: usize) -> usize
     ensures { λ r. ⌜ (r ≤ length) × (r ≤ 64) × (length ≤ 64 → r ≡ length) ⌝ }
 {
     if length > 64 { 0 } else { length }

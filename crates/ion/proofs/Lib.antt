@@ -1,2 +1,3 @@
 -- Laws for this crate's own proofs.
 mod HeaderFaces
+mod Lists

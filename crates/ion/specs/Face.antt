@@ -1,7 +1,13 @@
 -- The face of the seven entries to C: a number, and results that are written only where it is 0.
 use Prim.Native.Nat.{ℕ}
+use mathlib.Core.List.{List, [], _∷_}
+use lib.Dec.{eqb, ltb}
+use lib.ListN.{length}
 use lib.Ieee.{Float}
 use Rattle.util.specs.Refusal.{Outcome, refused, accepted}
+use Rattle.util.specs.Choose.{choose}
+use Rattle.drift.specs.Fit.{fitAnswer}
+use Rattle.drift.specs.declared.Block.{Block}
 use Rattle.trellis.specs.Answer as Answer
 use Rattle.trellis.specs.Answer.{scoreIn}
 use mathlib.Core.Path.{_≡_}
@@ -38,3 +44,13 @@ pub record HeaderFace (o : Outcome (Answer.Answer Float)) (r word word′ outcom
   pub of-outcome : outcome′ ≡ place (λ (a : Answer.Answer Float). outcomeNumber (a .outcome)) o outcome
   pub of-pass : pass′ ≡ place (λ (a : Answer.Answer Float). passNumber (a .outcome)) o pass
   pub of-score : score′ ≡ place (λ (a : Answer.Answer Float). scoreIn (a .outcome)) o score
+
+-- blocks whose fields lie in two lists
+unfoldable pub blocksOf : List ℕ → List Float → List Block
+blocksOf [] ts = []
+blocksOf (p ∷ ps) [] = []
+blocksOf (p ∷ ps) (t ∷ ts) = (record { place2 = p; timing = t }) ∷ blocksOf ps ts
+
+-- the fit over two lists: the entry's answer; lists of two lengths are refused by 4, after 1
+abbrev pub fitFace : ℕ → List ℕ → List Float → Outcome Float
+fitFace mode places timings = choose (eqb (length places) (length timings)) (fitAnswer mode (blocksOf places timings)) (refused (choose (ltb 1 mode) 1 4))

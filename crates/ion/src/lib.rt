@@ -1,6 +1,7 @@
 // The face: the entries as C functions in one static library (include/ion.h). Each answers 0 or the refusal's
 // number, and writes results only where it answers 0; its promise is an equation with the entry's definition.
 ghost use mathlib.Core.Path.{_≡_};
+ghost use Prim.Native.Nat.{_≤_};
 ghost use lib.ListN.{length};
 ghost use Rattle.util.specs.Multiplier.{multiplier};
 ghost use Rattle.frame.specs.Crc.{crcAnswer};
@@ -11,7 +12,10 @@ ghost use lib.Dec.{eqb};
 ghost use Rattle.ieee.specs.Whole.{plusZero};
 ghost use Rattle.trellis.specs.Answer.{scoreIn};
 ghost use Rattle.header.specs.Read.{outcomeIs, areas, headerRead, areaAfter};
-ghost use Rattle.ion.specs.Face.{number, place, itself, outcomeNumber, passNumber, HeaderFace};
+ghost use Rattle.drift.specs.Inside.{Gathers};
+ghost use Rattle.ion.specs.Face.{number, place, itself, outcomeNumber, passNumber, HeaderFace, blocksOf, fitFace};
+use drift::Block;
+use drift::Gathered;
 
 #[no_mangle]
 pub extern "C" fn ion_interleave_mult(n: u64, mult: &mut u64) -> u32
@@ -147,5 +151,40 @@ pub extern "C" fn ion_soft_values(
     ) {
         soft::Soft::Done => 0,
         soft::Soft::Refused(k) => k as u32,
+    }
+}
+
+// The first k blocks, whose fields lie in two lists.
+fn gathered(places: &[u32], timings: &[f64], k: usize) -> Gathered
+    requires { ⌜ (k ≤ 64) × (k ≤ length (now places)) × (k ≤ length (now timings)) ⌝ }
+    ensures { λ r. ⌜ Gathers (blocksOf (now (places .entry)) (now (timings .entry))) k r ⌝ }
+{
+    let mut g = drift::none();
+    for i in 0..k {
+        let place2 = places[i];
+        let timing = timings[i];
+        g = drift::push(g, i, Block { place2, timing });
+    }
+    g
+}
+
+// An export takes no slice of structs: a block's fields come in two lists of one length.
+#[no_mangle]
+pub extern "C" fn ion_fit_drift(mode: u8, places: &[u32], timings: &[f64], drift: &mut f64) -> u32
+    ensures answer { λ r. ⌜ r ≡ number (fitFace mode (now (places .entry)) (now (timings .entry))) ⌝ }
+    ensures lent { λ _. ⌜ now (drift .exit) ≡ place itself (fitFace mode (now (places .entry)) (now (timings .entry))) (now (drift .entry)) ⌝ }
+{
+    let n = places.len();
+    if timings.len() != n {
+        return if mode > 1 { 1 } else { 4 };
+    }
+    let k = drift::counted(n);
+    let g = gathered(places, timings, k);
+    match drift::fit_gathered(mode, n, g) {
+        drift::Fit::Drift(d) => {
+            *drift = d;
+            0
+        }
+        drift::Fit::Refused(k) => k as u32,
     }
 }

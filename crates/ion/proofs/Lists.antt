@@ -1,0 +1,54 @@
+-- Blocks whose fields lie in two lists: their count, block i by fields i, and the fit over what is gathered of them. Assumes nothing.
+use Prim.Native.Nat.{ℕ, zero, suc, _+_, _<_, _≤_}
+use mathlib.Core.Bool.{Bool, _&&_}
+use mathlib.Core.List.{List, [], _∷_}
+use mathlib.Core.Path.{_≡_, refl, sym, ap, _∙_}
+use native.Mathlib.Nat.{not-suc-le-zero}
+use native.Mathlib.Omega.{arith}
+use borrow.Author.Tests.{eq-eqb, ne-eqb}
+use lib.Dec.{leb, eqb, ltb}
+use lib.Ieee.{Float, nan}
+use lib.ListN.{length, getD}
+use Rattle.util.specs.Choose.{choose}
+use Rattle.util.specs.Refusal.{Outcome, refused, outcome}
+use Rattle.frame.specs.Format.{formatOf}
+use Rattle.drift.specs.Fit.{nowhere, fitOf, fitCauses, fitAnswer}
+use Rattle.drift.specs.Inside.{pushOf, Gathers}
+use Rattle.drift.specs.declared.Block.{Block}
+use Rattle.drift.specs.declared.Gathered.{Gathered}
+use Rattle.drift.proofs.Gathering.{gathers-more}
+use Rattle.drift.proofs.Same.{fit-agrees}
+use Rattle.ion.specs.Face.{blocksOf, fitFace}
+
+pub blocks-length : (ps : List ℕ) (ts : List Float) → length ts ≡ length ps → length (blocksOf ps ts) ≡ length ps
+unfolding blocksOf
+blocks-length [] ts e = refl
+blocks-length (p ∷ ps) [] e = absurd (omega (arith, e))
+blocks-length (p ∷ ps) (t ∷ ts) e = ap suc (blocks-length ps ts (omega (arith, e)))
+
+pub block-at : (ps : List ℕ) (ts : List Float) (i : ℕ) → i < length ps → i < length ts → getD (blocksOf ps ts) i nowhere ≡ record { place2 = getD ps i 0; timing = getD ts i nan }
+unfolding blocksOf
+block-at [] ts i h l = absurd (not-suc-le-zero h)
+block-at (p ∷ ps) [] i h l = absurd (not-suc-le-zero l)
+block-at (p ∷ ps) (t ∷ ts) zero h l = refl
+block-at (p ∷ ps) (t ∷ ts) (suc i) h l = block-at ps ts i (omega (arith, h)) (omega (arith, l))
+
+-- one turn: block i from its two fields
+pub one-more : (ps : List ℕ) (ts : List Float) (i : ℕ) (g r : Gathered) → i < 64 → i < length ps → i < length ts → r ≡ pushOf g i (record { place2 = getD ps i 0; timing = getD ts i nan }) → Gathers (blocksOf ps ts) i g → Gathers (blocksOf ps ts) (i + 1) r
+one-more ps ts i g r few h l e so = gathers-more (blocksOf ps ts) i g r few (e ∙ sym (ap (pushOf g i) (block-at ps ts i h l))) so
+
+pub two-lengths : (mode : ℕ) (ps : List ℕ) (ts : List Float) → (length ts ≡ length ps → ⊥) → (t : Bool) → ltb 1 mode ≡ t → refused (choose t 1 4) ≡ fitFace mode ps ts
+two-lengths mode ps ts other t e =
+    sym (λ i. choose (ne-eqb (length ps) (length ts) (λ same. other (sym same)) i) (fitAnswer mode (blocksOf ps ts)) (refused (choose (e i) 1 4)))
+
+pub fit-faces : (mode : ℕ) (ps : List ℕ) (ts : List Float) (k : ℕ) (g : Gathered) → length ts ≡ length ps → (length ps ≤ 64 → k ≡ length ps) → Gathers (blocksOf ps ts) k g
+    → outcome (fitCauses mode (leb (length ps) 64 && g .good)) (fitOf (formatOf mode .symbol) (length ps) (λ i. getD (g .places) i nan) (λ i. getD (g .timings) i nan)) ≡ fitFace mode ps ts
+fit-faces mode ps ts k g e all so =
+    ap (λ (n : ℕ). outcome (fitCauses mode (leb n 64 && g .good)) (fitOf (formatOf mode .symbol) n (λ i. getD (g .places) i nan) (λ i. getD (g .timings) i nan))) (sym count) ∙
+    fit-agrees mode bs k g (λ h. all (omega (arith, h, count)) ∙ sym count) so ∙ sym (ap (λ (t : Bool). choose t (fitAnswer mode bs) (refused (choose (ltb 1 mode) 1 4))) (eq-eqb (length ps) (length ts) (sym e)))
+  where
+    bs : List Block
+    bs = blocksOf ps ts
+
+    count : length bs ≡ length ps
+    count = blocks-length ps ts e
