@@ -6,11 +6,11 @@ use mathlib.Core.Path.{_≡_, refl, sym, ap, _∙_}
 use native.Mathlib.Nat.{not-suc-le-zero}
 use native.Mathlib.Omega.{arith}
 use borrow.Author.Tests.{eq-eqb, ne-eqb}
-use lib.Dec.{leb, eqb, ltb}
+use lib.Dec.{leb, ltb}
 use lib.Ieee.{Float, nan}
 use lib.ListN.{length, getD}
 use Rattle.util.specs.Choose.{choose}
-use Rattle.util.specs.Refusal.{Outcome, refused, outcome}
+use Rattle.util.specs.Refusal.{refused, outcome}
 use Rattle.frame.specs.Format.{formatOf}
 use Rattle.drift.specs.Fit.{nowhere, fitOf, fitCauses, fitAnswer}
 use Rattle.drift.specs.Inside.{pushOf, Gathers}

@@ -1,7 +1,7 @@
 -- `ion::gathered` meets its contract. The loop's invariant: i is at most k, and g is what the first i blocks give. The measure is what is left of k.
 -- Assumes nothing.
 use Prim.Native.Nat.{ℕ, _≤_, _-_}
-use mathlib.Core.Path.{sym, subst, subst⁻¹}
+use mathlib.Core.Path.{subst, subst⁻¹}
 use native.Mathlib.Omega.{arith}
 use borrow.Author.Needs.{needs}
 use native.Mathlib.Nat.{le-antisymm}

@@ -1,5 +1,4 @@
 -- `ion::ion_fit_drift` meets its contract: lists of two lengths are refused; else the fit over what is gathered, as a number and a place. Assumes nothing.
-use Prim.Native.Nat.{ℕ}
 use mathlib.Core.Bool.{true, false}
 use mathlib.Core.Path.{sym, ap, _∙_}
 use native.Mathlib.Omega.{arith}
