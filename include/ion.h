@@ -52,6 +52,30 @@ uint32_t ion_soft_values(uint8_t mode, uint8_t kind, uint8_t symbols, uint32_t w
 uint32_t ion_fit_drift(uint8_t mode, const uint32_t *places, size_t places_len, const double *timings, size_t timings_len,
                        double *drift);
 
+/* What is kept of a burst between its symbols; all zeros is a fresh one. n: the calls made; blocks: how many are listed. */
+typedef struct {
+    size_t n;
+    int32_t shift;
+    double tnum, tden, drift;
+    size_t blocks;
+} ion_tracker;
+
+/* One symbol of a burst, over the tracker's fields, its 2,048 shifts and the fields of its 64 blocks in two lists. heard: 0 Missed
+ * (the three doubles are not looked at), anything else Heard.
+ * Refused: 1, 4 (a length, or two lengths), 8 (early, late or noise not in 0..10^9), 9 (2,048 calls made, or the tracker's rule is
+ * broken), 10 (a listed block out of range or falling). */
+uint32_t ion_track_timing(uint8_t mode, size_t *n, int32_t *shift, double *tnum, double *tden, double *drift, size_t *blocks,
+                          int32_t *shifts, size_t shifts_len, uint32_t *places, size_t places_len, double *timings,
+                          size_t timings_len, uint8_t heard, double early, double late, double noise);
+
+/* The same over a tracker. */
+static inline uint32_t ion_track(uint8_t mode, ion_tracker *t, int32_t *shifts, size_t shifts_len, uint32_t *places,
+                                 size_t places_len, double *timings, size_t timings_len, uint8_t heard, double early, double late,
+                                 double noise) {
+    return ion_track_timing(mode, &t->n, &t->shift, &t->tnum, &t->tden, &t->drift, &t->blocks, shifts, shifts_len, places, places_len,
+                            timings, timings_len, heard, early, late, noise);
+}
+
 #ifdef __cplusplus
 }
 #endif

@@ -1,4 +1,4 @@
-/* Sends a header, reads it back from clean terms, and shows a refusal. From the repository's root:
+/* Sends a header, reads it back from clean terms, follows a late burst, and shows refusals. From the repository's root:
  *   rt staticlib ion
  *   cc -Iinclude bindings/c/read.c target/staticlib/libion.a -o target/read && target/read
  */
@@ -33,5 +33,19 @@ int main(void) {
     terms[7] = 1e7f;
     uint32_t refused = ion_read_header(0, 0, terms, N * 260, scores, 16384, next, 16384, start, 16384, decisions, N * 256, &read, &outcome, &pass, &score);
     printf("with a term of 1e7: refused by number %u\n", refused);
-    return !(read == word && outcome == 0 && pass == 1 && score == 8.0f * N && refused == 6);
+
+    /* a burst that comes later by 0.02 samples a symbol: what is left of that beside the shift moves energy to the late gate */
+    static int32_t shifts[2048];
+    static uint32_t places[64];
+    static double timings[64];
+    ion_tracker t = {0};
+    for (int i = 0; i < 2048; i++) {
+        double left = 9.0 / 104.0 * (0.02 * i - t.shift);
+        if (ion_track(0, &t, shifts, 2048, places, 64, timings, 64, 1, 10.0 - left, 10.0 + left, 1.0) != 0)
+            return 1;
+    }
+    printf("after %zu symbols: %zu blocks, drift %.6f samples a symbol, shift %d\n", t.n, t.blocks, t.drift, t.shift);
+    uint32_t full = ion_track(0, &t, shifts, 2048, places, 64, timings, 64, 0, 0, 0, 0);
+    printf("one symbol more: refused by number %u\n", full);
+    return !(read == word && outcome == 0 && pass == 1 && score == 8.0f * N && refused == 6 && t.n == 2048 && t.blocks == 63 && full == 9);
 }

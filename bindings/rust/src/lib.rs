@@ -30,6 +30,11 @@ mod sys {
             blanked_len: usize, work: *mut f32, work_len: usize, metrics: *mut f32, metrics_len: usize, soft: *mut f32, soft_len: usize,
         ) -> u32;
         pub fn ion_fit_drift(mode: u8, places: *const u32, places_len: usize, timings: *const f64, timings_len: usize, drift: *mut f64) -> u32;
+        pub fn ion_track_timing(
+            mode: u8, n: *mut usize, shift: *mut i32, tnum: *mut f64, tden: *mut f64, drift: *mut f64, blocks: *mut usize, shifts: *mut i32,
+            shifts_len: usize, places: *mut u32, places_len: usize, timings: *mut f64, timings_len: usize, heard: u8, early: f64, late: f64,
+            noise: f64,
+        ) -> u32;
     }
 }
 
@@ -98,6 +103,10 @@ pub enum Refusal {
     Term = 6,
     /// A blanked count above 255·window.
     Blanked = 7,
+    /// A [`Sample::Heard`] value that is not in 0 to 10^9.
+    Sample = 8,
+    /// A tracker that has had its 2,048 symbols.
+    Tracker = 9,
     /// Over 64 blocks, or a block out of range or falling.
     Blocks = 10,
 }
@@ -118,6 +127,8 @@ impl Refusal {
             5 => Refusal::Bit,
             6 => Refusal::Term,
             7 => Refusal::Blanked,
+            8 => Refusal::Sample,
+            9 => Refusal::Tracker,
             10 => Refusal::Blocks,
             other => unreachable!("no entry here refuses by number {other}"),
         })
@@ -134,6 +145,8 @@ impl fmt::Display for Refusal {
             Refusal::Bit => "a bit byte above 1",
             Refusal::Term => "a term is not finite or beyond ±1,000,000",
             Refusal::Blanked => "a blanked count above 255 times the window",
+            Refusal::Sample => "an energy or noise not in 0 to 10^9",
+            Refusal::Tracker => "2,048 symbols were tracked already",
             Refusal::Blocks => "over 64 blocks, or a block out of range or falling",
         };
         write!(f, "refused by number {}: {why}", self.number())
@@ -269,19 +282,115 @@ pub fn soft_values(mode: Mode, kind: Kind, form: Form, window: u32, bits: u32, t
     Ok(soft)
 }
 
-/// The drift by up to 64 blocks: twice the place of each (0 to 4,096, never falling) and its timing (within ±4,096), in two
-/// lists of one length.
+/// A block of symbols: twice its place, 0 to 4,096, and its timing in samples, within ±4,096.
+#[derive(Clone, Copy, Debug, PartialEq)]
+pub struct Block {
+    pub place2: u32,
+    pub timing: f64,
+}
+
+/// The drift, in samples a symbol, by up to 64 blocks whose places never fall.
 ///
 /// ```
-/// use ion_proved::{fit_drift, Mode, Refusal};
+/// use ion_proved::{fit_drift, Block, Mode, Refusal};
+/// let mut blocks: Vec<Block> = (0..5).map(|i| Block { place2: 40 * i, timing: i as f64 }).collect();
 /// // five blocks are too few for a drift
-/// assert_eq!(fit_drift(Mode::R0, &[0, 40, 80, 120, 160], &[0.0, 1.0, 2.0, 3.0, 4.0]), Ok(0.0));
-/// assert_eq!(fit_drift(Mode::R0, &[40, 0], &[0.0, 0.0]), Err(Refusal::Blocks));
-/// assert_eq!(fit_drift(Mode::R0, &[40, 0], &[0.0]), Err(Refusal::Length));
+/// assert_eq!(fit_drift(Mode::R0, &blocks), Ok(0.0));
+/// blocks.push(Block { place2: 0, timing: 5.0 });
+/// assert_eq!(fit_drift(Mode::R0, &blocks), Err(Refusal::Blocks));
 /// ```
-pub fn fit_drift(mode: Mode, places: &[u32], timings: &[f64]) -> Result<f64, Refusal> {
+pub fn fit_drift(mode: Mode, blocks: &[Block]) -> Result<f64, Refusal> {
+    let places: Vec<u32> = blocks.iter().map(|b| b.place2).collect();
+    let timings: Vec<f64> = blocks.iter().map(|b| b.timing).collect();
     let mut drift = 0.0;
     // SAFETY: both slices are told with their own lengths.
     Refusal::told(unsafe { sys::ion_fit_drift(mode as u8, places.as_ptr(), places.len(), timings.as_ptr(), timings.len(), &mut drift) })?;
     Ok(drift)
+}
+
+/// What was heard of one symbol.
+#[derive(Clone, Copy, Debug, PartialEq)]
+pub enum Sample {
+    /// Energy of the early gate, of the late gate, and the noise, each in 0 to 10^9.
+    Heard { early: f64, late: f64, noise: f64 },
+    Missed,
+}
+
+/// Follows the timing of one burst, symbol by symbol, for up to 2,048 symbols.
+///
+/// ```
+/// use ion_proved::{Mode, Refusal, Sample, Tracker};
+/// let mut tracker = Tracker::new(Mode::R0);
+/// // a hundred symbols whose late gate hears more: the burst lies later than its shift says
+/// for _ in 0..100 {
+///     tracker.track(Sample::Heard { early: 9.0, late: 11.0, noise: 1.0 }).unwrap();
+/// }
+/// assert_eq!(tracker.symbols(), 100);
+/// // R0's blocks have 32 symbols, and call n judges symbol n - 3
+/// assert_eq!(tracker.blocks().map(|b| b.place2).collect::<Vec<_>>(), [31, 95, 159]);
+/// // refused, and as it was
+/// let was = tracker.clone();
+/// assert_eq!(tracker.track(Sample::Heard { early: -1.0, late: 0.0, noise: 0.0 }), Err(Refusal::Sample));
+/// assert_eq!(tracker, was);
+/// ```
+#[derive(Clone, Debug, PartialEq)]
+pub struct Tracker {
+    mode: Mode,
+    n: usize,
+    shift: i32,
+    tnum: f64,
+    tden: f64,
+    drift: f64,
+    blocks: usize,
+    shifts: Vec<i32>,
+    places: [u32; 64],
+    timings: [f64; 64],
+}
+
+impl Tracker {
+    /// Nothing heard yet.
+    pub fn new(mode: Mode) -> Tracker {
+        Tracker { mode, n: 0, shift: 0, tnum: 0.0, tden: 0.0, drift: 0.0, blocks: 0, shifts: vec![0; 2048], places: [0; 64], timings: [0.0; 64] }
+    }
+
+    /// One symbol more. From [`Tracker::new`] it is refused only for its values or after 2,048 symbols, as is proved.
+    pub fn track(&mut self, sample: Sample) -> Result<(), Refusal> {
+        let (heard, early, late, noise) = match sample {
+            Sample::Heard { early, late, noise } => (1, early, late, noise),
+            Sample::Missed => (0, 0.0, 0.0, 0.0),
+        };
+        // SAFETY: every list is told with its own length; they and the six places are parts of one value and cannot overlap.
+        Refusal::told(unsafe {
+            sys::ion_track_timing(
+                self.mode as u8, &mut self.n, &mut self.shift, &mut self.tnum, &mut self.tden, &mut self.drift, &mut self.blocks,
+                self.shifts.as_mut_ptr(), self.shifts.len(), self.places.as_mut_ptr(), self.places.len(), self.timings.as_mut_ptr(),
+                self.timings.len(), heard, early, late, noise,
+            )
+        })
+    }
+
+    /// The symbols so far.
+    pub fn symbols(&self) -> usize {
+        self.n
+    }
+
+    /// By how many samples the next symbol is shifted: within ±137 in R0, ±69 in R1.
+    pub fn shift(&self) -> i32 {
+        self.shift
+    }
+
+    /// The drift so far, in samples a symbol.
+    pub fn drift(&self) -> f64 {
+        self.drift
+    }
+
+    /// The shift that each symbol so far had.
+    pub fn shifts(&self) -> &[i32] {
+        &self.shifts[..self.n]
+    }
+
+    /// The blocks in which something was heard.
+    pub fn blocks(&self) -> impl Iterator<Item = Block> + '_ {
+        self.places.iter().zip(&self.timings).take(self.blocks).map(|(&place2, &timing)| Block { place2, timing })
+    }
 }

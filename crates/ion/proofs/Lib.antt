@@ -1,3 +1,4 @@
 -- Laws for this crate's own proofs.
 mod HeaderFaces
 mod Lists
+pub mod TrackFaces

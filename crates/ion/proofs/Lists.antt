@@ -1,16 +1,16 @@
--- Blocks whose fields lie in two lists: their count, block i by fields i, and the fit over what is gathered of them. Assumes nothing.
+-- Blocks whose fields lie in two lists: their count, block i by fields i, the lists again, and the fit over what is gathered of them. Assumes nothing.
 use Prim.Native.Nat.{ℕ, zero, suc, _+_, _<_, _≤_}
 use mathlib.Core.Bool.{Bool, _&&_}
-use mathlib.Core.List.{List, [], _∷_}
+use mathlib.Core.List.{List, [], _∷_, map}
 use mathlib.Core.Path.{_≡_, refl, sym, ap, _∙_}
 use native.Mathlib.Nat.{not-suc-le-zero}
 use native.Mathlib.Omega.{arith}
 use borrow.Author.Tests.{eq-eqb, ne-eqb}
 use lib.Dec.{leb, ltb}
 use lib.Ieee.{Float, nan}
-use lib.ListN.{length, getD}
+use lib.ListN.{length, getD, set}
 use Rattle.util.specs.Choose.{choose}
-use Rattle.util.specs.Refusal.{refused, outcome}
+use Rattle.util.specs.Refusal.{Outcome, refused, outcome}
 use Rattle.frame.specs.Format.{formatOf}
 use Rattle.drift.specs.Fit.{nowhere, fitOf, fitCauses, fitAnswer}
 use Rattle.drift.specs.Inside.{pushOf, Gathers}
@@ -18,7 +18,7 @@ use Rattle.drift.specs.declared.Block.{Block}
 use Rattle.drift.specs.declared.Gathered.{Gathered}
 use Rattle.drift.proofs.Gathering.{gathers-more}
 use Rattle.drift.proofs.Same.{fit-agrees}
-use Rattle.ion.specs.Face.{blocksOf, fitFace}
+use Rattle.ion.specs.Face.{blocksOf, placesOf, timingsOf, overLists, fitFace}
 
 pub blocks-length : (ps : List ℕ) (ts : List Float) → length ts ≡ length ps → length (blocksOf ps ts) ≡ length ps
 unfolding blocksOf
@@ -37,18 +37,40 @@ block-at (p ∷ ps) (t ∷ ts) (suc i) h l = block-at ps ts i (omega (arith, h))
 pub one-more : (ps : List ℕ) (ts : List Float) (i : ℕ) (g r : Gathered) → i < 64 → i < length ps → i < length ts → r ≡ pushOf g i (record { place2 = getD ps i 0; timing = getD ts i nan }) → Gathers (blocksOf ps ts) i g → Gathers (blocksOf ps ts) (i + 1) r
 one-more ps ts i g r few h l e so = gathers-more (blocksOf ps ts) i g r few (e ∙ sym (ap (pushOf g i) (block-at ps ts i h l))) so
 
-pub two-lengths : (mode : ℕ) (ps : List ℕ) (ts : List Float) → (length ts ≡ length ps → ⊥) → (t : Bool) → ltb 1 mode ≡ t → refused (choose t 1 4) ≡ fitFace mode ps ts
-two-lengths mode ps ts other t e =
-    sym (λ i. choose (ne-eqb (length ps) (length ts) (λ same. other (sym same)) i) (fitAnswer mode (blocksOf ps ts)) (refused (choose (e i) 1 4)))
+pub two-lengths : {A : Type 0} (mode : ℕ) (ps : List ℕ) (ts : List Float) (o : Outcome A) (k : ℕ) → (length ts ≡ length ps → ⊥) → k ≡ choose (ltb 1 mode) 1 4 → refused k ≡ overLists mode ps ts o
+two-lengths mode ps ts o k other e = ap refused e ∙ sym (ap (λ (t : Bool). choose t o (refused (choose (ltb 1 mode) 1 4))) (ne-eqb (length ps) (length ts) (λ same. other (sym same))))
+
+pub one-length : {A : Type 0} (mode : ℕ) (ps : List ℕ) (ts : List Float) (o : Outcome A) → length ts ≡ length ps → o ≡ overLists mode ps ts o
+one-length mode ps ts o e = sym (ap (λ (t : Bool). choose t o (refused (choose (ltb 1 mode) 1 4))) (eq-eqb (length ps) (length ts) (sym e)))
 
 pub fit-faces : (mode : ℕ) (ps : List ℕ) (ts : List Float) (k : ℕ) (g : Gathered) → length ts ≡ length ps → (length ps ≤ 64 → k ≡ length ps) → Gathers (blocksOf ps ts) k g
     → outcome (fitCauses mode (leb (length ps) 64 && g .good)) (fitOf (formatOf mode .symbol) (length ps) (λ i. getD (g .places) i nan) (λ i. getD (g .timings) i nan)) ≡ fitFace mode ps ts
 fit-faces mode ps ts k g e all so =
     ap (λ (n : ℕ). outcome (fitCauses mode (leb n 64 && g .good)) (fitOf (formatOf mode .symbol) n (λ i. getD (g .places) i nan) (λ i. getD (g .timings) i nan))) (sym count) ∙
-    fit-agrees mode bs k g (λ h. all (omega (arith, h, count)) ∙ sym count) so ∙ sym (ap (λ (t : Bool). choose t (fitAnswer mode bs) (refused (choose (ltb 1 mode) 1 4))) (eq-eqb (length ps) (length ts) (sym e)))
+    fit-agrees mode bs k g (λ h. all (omega (arith, h, count)) ∙ sym count) so ∙ one-length mode ps ts (fitAnswer mode bs) e
   where
     bs : List Block
     bs = blocksOf ps ts
 
     count : length bs ≡ length ps
     count = blocks-length ps ts e
+
+-- ---- the two lists again
+pub places-back : (ps : List ℕ) (ts : List Float) → length ts ≡ length ps → placesOf (blocksOf ps ts) ≡ ps
+unfolding blocksOf
+places-back [] ts e = refl
+places-back (p ∷ ps) [] e = absurd (omega (arith, e))
+places-back (p ∷ ps) (t ∷ ts) e = ap (λ (l : List ℕ). p ∷ l) (places-back ps ts (omega (arith, e)))
+
+pub timings-back : (ps : List ℕ) (ts : List Float) → length ts ≡ length ps → timingsOf (blocksOf ps ts) ≡ ts
+unfolding blocksOf
+timings-back [] [] e = refl
+timings-back [] (t ∷ ts) e = absurd (omega (arith, e))
+timings-back (p ∷ ps) [] e = absurd (omega (arith, e))
+timings-back (p ∷ ps) (t ∷ ts) e = ap (λ (l : List Float). t ∷ l) (timings-back ps ts (omega (arith, e)))
+
+-- a field of a list in which one place is set
+pub map-set : {A B : Type 0} (f : A → B) (l : List A) (i : ℕ) (y : A) → map f (set l i y) ≡ set (map f l) i (f y)
+map-set f [] i y = refl
+map-set f (x ∷ xs) zero y = refl
+map-set {B = B} f (x ∷ xs) (suc i) y = ap (λ (zs : List B). f x ∷ zs) (map-set f xs i y)

@@ -2,20 +2,27 @@
 // number, and writes results only where it answers 0; its promise is an equation with the entry's definition.
 ghost use mathlib.Core.Path.{_≡_};
 ghost use Prim.Native.Nat.{_≤_};
-ghost use lib.ListN.{length};
+ghost use lib.ListN.{length, set};
 ghost use Rattle.util.specs.Multiplier.{multiplier};
 ghost use Rattle.frame.specs.Crc.{crcAnswer};
 ghost use Rattle.conv.specs.Sent.{sentAnswer, sentValues};
 ghost use Rattle.soft.specs.Entry.{asked, softAnswer, workAfter, metricsAfter, softAfter};
 ghost use mathlib.Core.Bool.{not};
-ghost use lib.Dec.{eqb};
+ghost use lib.Dec.{eqb, ltb};
 ghost use Rattle.ieee.specs.Whole.{plusZero};
 ghost use Rattle.trellis.specs.Answer.{scoreIn};
 ghost use Rattle.header.specs.Read.{outcomeIs, areas, headerRead, areaAfter};
 ghost use Rattle.drift.specs.Inside.{Gathers};
-ghost use Rattle.ion.specs.Face.{number, place, itself, outcomeNumber, passNumber, HeaderFace, blocksOf, fitFace};
+ghost use Rattle.drift.specs.Tracker as Drift;
+ghost use Rattle.util.specs.Choose.{choose};
+ghost use Rattle.ion.specs.Face.{number, place, itself, outcomeNumber, passNumber, HeaderFace, blocksOf, fitFace, trackerOf, sampleOf, TrackFace};
+ghost use Rattle.ion.specs.Called.{Called};
 use drift::Block;
 use drift::Gathered;
+use drift::Sample;
+use drift::Stepped;
+use drift::Tracked;
+use drift::Tracker;
 
 #[no_mangle]
 pub extern "C" fn ion_interleave_mult(n: u64, mult: &mut u64) -> u32
@@ -168,6 +175,13 @@ fn gathered(places: &[u32], timings: &[f64], k: usize) -> Gathered
     g
 }
 
+// The number by which lists of two lengths are refused.
+fn two_lengths(mode: u8) -> u32
+    ensures { λ r. ⌜ r ≡ choose (ltb 1 mode) 1 4 ⌝ }
+{
+    if mode > 1 { 1 } else { 4 }
+}
+
 // An export takes no slice of structs: a block's fields come in two lists of one length.
 #[no_mangle]
 pub extern "C" fn ion_fit_drift(mode: u8, places: &[u32], timings: &[f64], drift: &mut f64) -> u32
@@ -176,7 +190,7 @@ pub extern "C" fn ion_fit_drift(mode: u8, places: &[u32], timings: &[f64], drift
 {
     let n = places.len();
     if timings.len() != n {
-        return if mode > 1 { 1 } else { 4 };
+        return two_lengths(mode);
     }
     let k = drift::counted(n);
     let g = gathered(places, timings, k);
@@ -187,4 +201,111 @@ pub extern "C" fn ion_fit_drift(mode: u8, places: &[u32], timings: &[f64], drift
         }
         drift::Fit::Refused(k) => k as u32,
     }
+}
+
+fn sample_of(heard: u8, early: f64, late: f64, noise: f64) -> Sample
+    ensures { λ r. ⌜ r ≡ sampleOf heard early late noise ⌝ }
+{
+    if heard == 0 {
+        Sample::Missed
+    } else {
+        Sample::Heard(early, late, noise)
+    }
+}
+
+// One call by value, over two lists of one length.
+fn called(
+    mode: u8,
+    t: Tracker,
+    shifts: &mut [i32],
+    places: &[u32],
+    timings: &[f64],
+    s: Sample,
+) -> Stepped
+    requires { ⌜ length (now timings) ≡ length (now places) ⌝ }
+    ensures { λ r. ⌜ Called mode t (now (shifts .entry)) (blocksOf (now (places .entry)) (now (timings .entry))) s r (now (shifts .exit)) ⌝ }
+{
+    let room = places.len();
+    let k = drift::readable(mode, t, room);
+    let g = gathered(places, timings, k);
+    drift::step(mode, t, shifts, g, room, s)
+}
+
+// A block's fields are stored, and past the end nothing is.
+fn put(places: &mut [u32], timings: &mut [f64], at: usize, b: Block)
+    requires { ⌜ length (now timings) ≡ length (now places) ⌝ }
+    ensures { λ _. ⌜ (now (places .exit) ≡ set (now (places .entry)) at (b .place2)) × (now (timings .exit) ≡ set (now (timings .entry)) at (b .timing)) ⌝ }
+{
+    if at < places.len() {
+        places[at] = b.place2;
+        timings[at] = b.timing;
+    }
+}
+
+fn number_of(answer: Tracked) -> u32
+    ensures { λ r. ⌜ r ≡ number (Drift.meaning answer) ⌝ }
+{
+    match answer {
+        Tracked::Done => 0,
+        Tracked::Refused(k) => k as u32,
+    }
+}
+
+// An export takes no reference to a struct: the tracker's fields come as six places, a block's in two lists.
+#[no_mangle]
+pub extern "C" fn ion_track_timing(
+    mode: u8,
+    n: &mut usize,
+    shift: &mut i32,
+    tnum: &mut f64,
+    tden: &mut f64,
+    drift: &mut f64,
+    blocks: &mut usize,
+    shifts: &mut [i32],
+    places: &mut [u32],
+    timings: &mut [f64],
+    heard: u8,
+    early: f64,
+    late: f64,
+    noise: f64,
+) -> u32
+    ensures { λ r. ⌜ TrackFace mode (trackerOf (now (n .entry)) (now (shift .entry)) (now (tnum .entry)) (now (tden .entry)) (now (drift .entry)) (now (blocks .entry))) (now (shifts .entry)) (now (places .entry)) (now (timings .entry)) (sampleOf heard early late noise)
+        r (trackerOf (now (n .exit)) (now (shift .exit)) (now (tnum .exit)) (now (tden .exit)) (now (drift .exit)) (now (blocks .exit))) (now (shifts .exit)) (now (places .exit)) (now (timings .exit)) ⌝ }
+{
+    if timings.len() != places.len() {
+        return two_lengths(mode);
+    }
+    let z = *shift;
+    let t = Tracker {
+        n: *n,
+        shift: z,
+        tnum: *tnum,
+        tden: *tden,
+        drift: *drift,
+        blocks: *blocks,
+    };
+    let did = called(
+        mode,
+        t,
+        shifts,
+        places,
+        timings,
+        sample_of(heard, early, late, noise),
+    );
+    let b = did.block;
+    put(places, timings, did.at, b);
+    let answer = did.answer;
+    let told = number_of(answer);
+    if !did.done {
+        return told;
+    }
+    let next = did.next;
+    let z = next.shift;
+    *n = next.n;
+    *shift = z;
+    *tnum = next.tnum;
+    *tden = next.tden;
+    *drift = next.drift;
+    *blocks = next.blocks;
+    told
 }

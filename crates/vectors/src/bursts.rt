@@ -54,7 +54,7 @@ fn burst(
     fill(seed, terms);
     count(seed, window, counts);
     let bits = ((asked >> 32) % 65536) as u32;
-    let refused = probe::probe_soft_values(
+    let k = ion::ion_soft_values(
         what / 6,
         what / 2 % 3,
         what % 2,
@@ -66,8 +66,8 @@ fn burst(
         metrics,
         soft,
     );
-    if refused != 0 {
-        return refused;
+    if k != 0 {
+        return crate::refusal(k);
     }
     digest(digest(seed, metrics), soft)
 }

@@ -40,6 +40,17 @@ pub fn bits_of(x: u64) -> [u8; 64]
     out
 }
 
+// A refusal as the records have it: 2^32 and its number.
+pub fn refusal(k: u32) -> u64 {
+    0x1_0000_0000 + (k as u64)
+}
+
+fn mult(n: u64) -> u64 {
+    let mut factor = 0u64;
+    let k = ion::ion_interleave_mult(n, &mut factor);
+    if k == 0 { factor } else { refusal(k) }
+}
+
 // The CRC of up to 32 bits. From its lowest byte on the argument has mode, kind, length and a zero byte, then the bits.
 fn crc(asked: u64) -> u64 {
     let bits = bits_of(asked >> 32);
@@ -47,16 +58,23 @@ fn crc(asked: u64) -> u64 {
     if n > 32 {
         return 0x1_0000_0000;
     }
-    probe::probe_crc((asked % 256) as u8, ((asked >> 8) % 256) as u8, &bits[..n])
+    let mut value = 0u16;
+    let k = ion::ion_crc(
+        (asked % 256) as u8,
+        ((asked >> 8) % 256) as u8,
+        &bits[..n],
+        &mut value,
+    );
+    if k == 0 { value as u64 } else { refusal(k) }
 }
 
 // A header's values in the eight slots from `at`.
 fn sent(mode: u8, kind: u8, bits: &[u8], values: &mut [u8], at: usize) -> u64
     requires { ⌜ at + 8 ≤ length (now values) ⌝ }
 {
-    let refused = probe::probe_header_values(mode, kind, bits, values);
-    if refused != 0 {
-        return refused;
+    let k = ion::ion_header_values(mode, kind, bits, values);
+    if k != 0 {
+        return refusal(k);
     }
     word(values, at)
 }
@@ -93,7 +111,7 @@ fn long(what: u8, asked: u64) -> u64 {
 
 fn answer(what: u8, asked: u64) -> u64 {
     match what {
-        0 => probe::probe_mult(asked),
+        0 => mult(asked),
         1 => crc(asked),
         2 => probe::probe_hop(0, asked),
         3 => probe::probe_hop(1, asked),

@@ -52,10 +52,10 @@ pub fn bits(score: f32) -> u64 {
     NONE
 }
 
-fn told(part: u8, answer: &[u64; 3], score: f32) -> u64 {
+fn told(part: u8, word: u64, outcome: u8, pass: u8, score: f32) -> u64 {
     match part {
-        0 => answer[0],
-        1 => std::num::wrapping_add_u64(answer[1], answer[2] << 4),
+        0 => word,
+        1 => (outcome as u64) + ((pass as u64) << 4),
         _ => bits(score),
     }
 }
@@ -71,7 +71,7 @@ fn read(
     terms: &mut [f32],
     decisions: &mut [u64],
 ) -> u64 {
-    if probe::probe_header_values(mode, kind, bits, values) != 0 {
+    if ion::ion_header_values(mode, kind, bits, values) != 0 {
         return NONE;
     }
     fill(seed, terms);
@@ -79,9 +79,11 @@ fn read(
     let mut ends = [0.0f32; 16384];
     let mut second = [0.0f32; 16384];
     let mut start = [0.0f32; 16384];
-    let mut answer = [0u64; 3];
-    let mut score = [0.0f32; 1];
-    let refused = probe::probe_read_header(
+    let mut word = 0u64;
+    let mut outcome = 0u8;
+    let mut pass = 0u8;
+    let mut score = 0.0f32;
+    let k = ion::ion_read_header(
         mode,
         kind,
         terms,
@@ -89,13 +91,15 @@ fn read(
         &mut second,
         &mut start,
         decisions,
-        &mut answer,
+        &mut word,
+        &mut outcome,
+        &mut pass,
         &mut score,
     );
-    if refused != 0 {
-        return refused;
+    if k != 0 {
+        return crate::refusal(k);
     }
-    told(part, &answer, score[0])
+    told(part, word, outcome, pass, score)
 }
 
 pub fn header(what: u8, seed: u64) -> u64 {

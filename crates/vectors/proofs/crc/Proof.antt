@@ -12,23 +12,29 @@ bits-of-requires c κs = search needs
 returns : tie.Need-returns
 returns c = search needs
 
-cast-probe-crc : tie.Need-cast-probe-crc
-cast-probe-crc c = search needs
+cast-ion-crc : tie.Need-cast-ion-crc
+cast-ion-crc c = search needs
 
-cast-probe-crc-2 : tie.Need-cast-probe-crc-2
-cast-probe-crc-2 c = search needs
+cast-ion-crc-2 : tie.Need-cast-ion-crc-2
+cast-ion-crc-2 c = search needs
 
 array-share-prefix-bits : tie.Need-array-share-prefix-bits
 array-share-prefix-bits c = search needs
 
-slice-aggregate-probe-crc : tie.Need-slice-aggregate-probe-crc
-slice-aggregate-probe-crc c = sym (length-take-le _ (c .before .before .bits-of .result) (omega arith))
+slice-aggregate-ion-crc : tie.Need-slice-aggregate-ion-crc
+slice-aggregate-ion-crc c = sym (length-take-le _ (c .before .before .bits-of .result) (omega arith))
 
-probe-crc-requires : tie.Need-probe-crc-requires
-probe-crc-requires c κs = search needs
+ion-crc-requires : tie.Need-ion-crc-requires
+ion-crc-requires c κs = search needs
+
+refusal-requires : tie.Need-refusal-requires
+refusal-requires c κs = search needs
 
 returns-2 : tie.Need-returns-2
 returns-2 c = search needs
+
+returns-3 : tie.Need-returns-3
+returns-3 c = search needs
 
 pub crc-spec : {M : Type 1} → statement M
 crc-spec =
@@ -36,9 +42,11 @@ crc-spec =
     (tie.spec
     bits-of-requires
     returns
-    cast-probe-crc
-    cast-probe-crc-2
+    cast-ion-crc
+    cast-ion-crc-2
     array-share-prefix-bits
-    slice-aggregate-probe-crc
-    probe-crc-requires
-    returns-2)
+    slice-aggregate-ion-crc
+    ion-crc-requires
+    refusal-requires
+    returns-2
+    returns-3)

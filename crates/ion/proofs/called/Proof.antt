@@ -1,0 +1,27 @@
+-- `ion::called` meets its contract: what is gathered of the two lists is what the entry gathers of its blocks. Assumes nothing.
+use native.Mathlib.Omega.{arith}
+use borrow.Author.Needs.{needs}
+use Rattle.ion.proofs.TrackFaces.{called-of}
+use Rattle.ion.proofs.called.Statement.{statement}
+use Rattle.ion.proofs.called.Tie as tie
+
+readable-requires : tie.Need-readable-requires
+readable-requires c κs = search needs
+
+gathered-requires : tie.Need-gathered-requires
+gathered-requires c κs = (c .readable .ensures .few, c .readable .ensures .there, omega (arith, c .readable .ensures .there, c .before .before .before .pre))
+
+step-requires : tie.Need-step-requires
+step-requires c κs = search needs
+
+same-length : tie.Need-same-length
+same-length c = search needs
+
+returns : tie.Need-returns
+returns c =
+    let at = c .before .before .before in
+    let args = at .before .before .before .before .args in
+    called-of (args .mode) (args .t) (args .shifts .now) (args .places .now) (args .timings .now) (args .s) _ _ _ _ (at .before .before .before .before .pre) (at .before .readable .ensures) (at .gathered .ensures) (c .before .step .ensures)
+
+pub called-spec : {M : Type 1} → statement M
+called-spec = tie.close (tie.spec readable-requires gathered-requires step-requires same-length returns)
