@@ -13,7 +13,6 @@ use Rattle.drift.specs.Tracker.{trackAnswer, call, storedOf, pushedOnto, meanin
 use Rattle.drift.specs.Inside.{Gathers, Readable, Steps}
 use Rattle.drift.specs.declared.Block.{Block}
 use Rattle.drift.specs.declared.Gathered.{Gathered}
-use Rattle.drift.specs.declared.Moved.{Moved}
 use Rattle.drift.specs.declared.Sample.{Sample}
 use Rattle.drift.specs.declared.Stepped.{Stepped}
 use Rattle.drift.specs.declared.Tracker.{Tracker}

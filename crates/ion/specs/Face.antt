@@ -10,7 +10,6 @@ use Rattle.util.specs.Choose.{choose}
 use Rattle.drift.specs.Fit.{fitAnswer}
 use Rattle.drift.specs.Tracker.{trackAnswer, call, storedOf, pushedOnto}
 use Rattle.drift.specs.declared.Block.{Block}
-use Rattle.drift.specs.declared.Moved.{Moved}
 use Rattle.drift.specs.declared.Tracker.{Tracker}
 use Rattle.drift.specs.declared.Sample.{Sample}
 use Rattle.drift.specs.declared.Sample.the-variants.{Heard, Missed}
