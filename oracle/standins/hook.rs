@@ -1,7 +1,7 @@
 // Child of phy_mfsk::rx::data, so it sees the private items of all its ancestors. No rule is restated here:
 // each function calls the Rust's item, or includes lines cut from the Rust's files (gen_*.rs, made by make.sh).
 use super::super::model::{self, Params, local_noise};
-use super::super::{Active, EXT, Energies, LLR_MAX, MfskRx, NE, gi};
+use super::super::{Active, EXT, Energies, Grid, Known, LLR_MAX, MfskRx, NE, gi};
 use super::{METRIC_FLOOR, TBLOCK, TD};
 use crate::fec::conv::ConvCode;
 pub use crate::phy_mfsk::MfskMode;
@@ -131,4 +131,31 @@ pub fn soft_terms(mode: MfskMode, symbols: bool, hsyms: usize, nbits: usize, ter
 pub fn blanked_frac(s: u32, w: usize, k: usize) -> f32 {
     let layout = crate::phy_mfsk::MfskLayout::scaled(k);
     include!("gen_frac.rs")
+}
+
+/// The places of the 16 preamble tones on R0's grid.
+pub fn preamble_places() -> Vec<usize> {
+    MfskRx::preamble_known().iter().map(|k| k.e[0]).collect()
+}
+/// The header's terms before anything of it is known (`try_header`), from the energies of preamble and header symbols in
+/// the window of that number.
+pub fn prior_terms(mode: MfskMode, number: usize, pre: &[Energies], header: &[Energies]) -> Vec<Terms> {
+    let p = match mode {
+        MfskMode::R0 => model::header_prior(pre),
+        MfskMode::R1 => model::header_prior_r1(pre, header, Grid::new(MfskMode::R0).wins[number], &Grid::new(mode)),
+    };
+    header.iter().map(|x| p.terms(x)).collect()
+}
+fn known_symbols(mode: MfskMode, kind: Kind, info: &[u8]) -> Vec<Known> {
+    let g = &Grid::new(mode);
+    let fmt = g.fmt;
+    include!("gen_known.rs") // acquire.rs 385 to 410
+}
+/// The data's terms by the model of the header's known symbols (`start_burst`) and the local noise (`service_burst`).
+pub fn fitted_terms(mode: MfskMode, kind: Kind, info: &[u8], pre: &[Energies], header: &[Energies], data: &[Energies]) -> Vec<Terms> {
+    let known = known_symbols(mode, kind, info);
+    let heard: Vec<Energies> = pre.iter().chain(header).copied().collect();
+    let p = model::estimate(&heard[heard.len() - known.len()..], &known, Grid::new(mode).ne);
+    let local = local_noise(data, &p, Fmt::of(mode), frame::header_symbols(mode, kind));
+    data.iter().zip(&local).map(|(x, k)| p.terms_local(x, k)).collect()
 }

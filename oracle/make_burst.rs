@@ -1,0 +1,66 @@
+// Writes one burst file (docs/BURST-FORMAT.md) to standard output, and what was sent to standard error.
+mod made;
+use ion::phy_mfsk::hook::{air, windows};
+use made::{How, KINDS, MODES, made, write};
+use std::io::Write;
+
+const USE: &str = "make_burst [--seed N] [--mode 0|1] [--kind 0|1|2] [--form 0|1] [--window N] [--bits N]
+           [--snr DB] [--doppler HZ] [--delay MS] [--carrier DB] [--blanked SHARE] [--damage WHAT]
+mode 0 R0, 1 R1; kind 0 HeaderOnly, 1 Data, 2 Cue; form 0 bits, 1 symbols; window one of the mode's three;
+snr over noise in 3,000 Hz; doppler 0: one steady path; carrier: on one bin, dB over the signal;
+damage: nan, large, cut, long, magic, version, mode, kind, form, zeros, window, bits, count";
+
+fn stop(why: &str) -> ! {
+    eprintln!("make_burst: {why}\n{USE}");
+    std::process::exit(2)
+}
+
+fn number<T: std::str::FromStr>(name: &str, text: Option<String>) -> T {
+    text.and_then(|t| t.parse().ok()).unwrap_or_else(|| stop(&format!("{name} needs a number")))
+}
+
+fn asked() -> (u64, How, Option<String>) {
+    let (mut seed, mut how, mut damage) = (1, How::default(), None);
+    let mut args = std::env::args().skip(1);
+    while let Some(name) = args.next() {
+        let mut next = || args.next();
+        match name.as_str() {
+            "--seed" => seed = number(&name, next()),
+            "--mode" => how.mode = number(&name, next()),
+            "--kind" => how.kind = number(&name, next()),
+            "--form" => how.symbols = number::<u8>(&name, next()) == 1,
+            "--window" => how.window = number(&name, next()),
+            "--bits" => how.bits = number(&name, next()),
+            "--snr" => how.snr = number(&name, next()),
+            "--doppler" => how.doppler = number(&name, next()),
+            "--delay" => how.delay = number(&name, next()),
+            "--carrier" => how.carrier = Some(number(&name, next())),
+            "--blanked" => how.blanked = number(&name, next()),
+            "--damage" => damage = next(),
+            _ => stop(&format!("{name} is not known")),
+        }
+    }
+    if how.mode > 1 || how.kind > 2 || how.bits > 10_240 {
+        stop("mode, kind or bits out of range");
+    }
+    if how.window != 0 && !windows(MODES[how.mode as usize]).contains(&(how.window as usize)) {
+        stop("the window is not one of the mode's");
+    }
+    (seed, how, damage)
+}
+
+fn main() {
+    let (seed, how, damage) = asked();
+    let b = made(seed, &how);
+    let n = air::header_info_bits(KINDS[how.kind as usize]);
+    eprintln!("sent: header {:0w$x}, {n} bits with a good CRC; {} data bits in {} symbols, window {}", b.word, b.bits, b.blanked.len(), b.window, w = n / 4);
+    if b.bits > 0 {
+        let bits: String = b.sent.iter().take(60).map(|b| (b'0' + b) as char).collect();
+        eprintln!("data: {bits}{}", if b.bits > 60 { ".." } else { "" });
+    }
+    let mut out = write(&b);
+    if let Some(what) = damage {
+        made::damage(&mut out, &what).unwrap_or_else(|why| stop(&why));
+    }
+    std::io::stdout().write_all(&out).unwrap();
+}
