@@ -2,6 +2,7 @@
 // A section that differs prints its smallest input, and the run ends with status 1. The argument is how many headers of each style are read.
 use ion::phy_mfsk::hook::{Fmt, Kind, MfskMode, air, windows};
 mod drift;
+mod inputs;
 mod read;
 mod sent;
 mod soft;
@@ -173,9 +174,6 @@ fn numbers(wrong: &mut bool) {
 }
 
 fn main() {
-    if std::env::args().nth(1).as_deref() == Some("time") {
-        return read::time(1_000);
-    }
     let mut wrong = false;
     drift::all(&mut wrong);
     if cfg!(unchanged_sums) {

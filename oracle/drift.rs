@@ -1,7 +1,8 @@
 // The fit and the tracker against the Rust's `fit_drift` and `track_timing`, bit for bit after every call, and their refusals
 // against document 01's table. Built with `--cfg unchanged_sums` the Rust's float sums start at -0.0, and only a zero's sign may differ.
+use super::inputs::{Dice, Heard, sample};
 use super::{MODES, REFUSED, Section};
-use ion::phy_mfsk::hook::{Fmt, Tracker, air, fit_drift};
+use ion::phy_mfsk::hook::{Fmt, Tracker, fit_drift};
 
 unsafe extern "C" {
     fn probe_fit(mode: u8, places: *const u32, n: usize, timings: *const f64, m: usize, drift: *mut f64, one: usize) -> u64;
@@ -11,24 +12,9 @@ unsafe extern "C" {
     ) -> u64;
 }
 
-type Heard = Option<(f64, f64, f64)>;
 const CALLS: usize = 2048;
 /// What a drift's place holds before the call.
 const UNTOUCHED: u64 = 0x7FF4_0000_0000_A5A5;
-
-struct Random(u64);
-impl Random {
-    fn word(&mut self) -> u64 {
-        self.0 += 1;
-        air::mix64(self.0)
-    }
-    fn unit(&mut self) -> f64 {
-        (self.word() >> 11) as f64 / (1u64 << 53) as f64
-    }
-    fn below(&mut self, n: u64) -> u64 {
-        self.word() % n
-    }
-}
 
 /// Equal bits, or with unchanged sums two zeros: how many of those is counted apart.
 fn same(s: &mut Section, zeros: &mut u64, ours: f64, theirs: f64, input: impl Fn() -> String) {
@@ -47,7 +33,7 @@ fn fit(mode: u8, places: &[u32], timings: &[f64]) -> (u64, u64) {
 
 fn fits(wrong: &mut bool) {
     let mut s = Section::new("fit, 400,000 lists of blocks");
-    let (mut r, mut zeros) = (Random(1 << 40), 0);
+    let (mut r, mut zeros) = (Dice(1 << 40), 0);
     for round in 0..400_000u64 {
         let (n, m) = (r.below(65) as usize, r.below(2) as usize);
         let most = [4096, 1, 2, 3000][r.below(4) as usize];
@@ -84,7 +70,7 @@ fn fits(wrong: &mut bool) {
 
 fn fit_refusals(wrong: &mut bool) {
     let mut s = Section::new("fit, refusals 1 and 10 and an untouched drift");
-    let mut r = Random(2 << 40);
+    let mut r = Dice(2 << 40);
     let bad = [f64::NAN, f64::INFINITY, -f64::INFINITY, 4096.0f64.next_up(), (-4096.0f64).next_down()];
     for round in 0..200_000u64 {
         let n = r.below(70) as usize;
@@ -161,29 +147,9 @@ fn agrees(s: &mut Section, zeros: &mut u64, o: &Ours, t: &Tracker, length: usize
     s.pair((stored && rest) as u64, 1, input);
 }
 
-/// The sample of call c in a series of one shape.
-fn sample(r: &mut Random, shape: u64, ppm: f64, sym: f64, c: usize, shift: i32) -> Heard {
-    let e = 10f64.powf(9.0 * r.unit());
-    match shape {
-        0 => (r.below(5) > 0).then(|| (e * r.unit(), e * r.unit(), e * r.unit())),
-        1 | 2 => {
-            let off = (ppm * 1e-6 * sym * c as f64 - shift as f64).clamp(-16.0, 16.0) + if shape == 2 { 6.0 * (r.unit() - 0.5) } else { 0.0 };
-            Some((1e4 * (1.0 - off / 60.0), 1e4 * (1.0 + off / 60.0), 10.0 * r.unit()))
-        }
-        3 => {
-            let faded = c / 150 % 2 == 1;
-            (!faded && r.below(4) > 0).then(|| (1e3 * r.unit(), 1e3 * r.unit() + ppm.abs(), 2e3 * r.unit()))
-        }
-        4 => Some(([0.0, -0.0, 1.0][r.below(3) as usize], [0.0, -0.0, 1.0][r.below(3) as usize], [0.0, -0.0, 2.0][r.below(3) as usize])),
-        5 => Some(([0.0, 1e9][r.below(2) as usize], [0.0, 1e9][r.below(2) as usize], [0.0, 1e9, 5e-324][r.below(3) as usize])),
-        6 => Some((-0.0, -0.0, 0.0)),
-        _ => Some((1e9, 0.0, 0.0)).filter(|_| ppm > 0.0).or(Some((0.0, 1e9, 0.0))),
-    }
-}
-
 fn series(wrong: &mut bool) {
     let mut s = Section::new("tracker, 1,024 series of 2,048 calls, every field and list after every call");
-    let (mut r, mut zeros, mut far) = (Random(3 << 40), 0, [0i32; 2]);
+    let (mut r, mut zeros, mut far) = (Dice(3 << 40), 0, [0i32; 2]);
     for round in 0..1024u64 {
         let m = (round & 1) as usize;
         let (sym, length) = (Fmt::of(MODES[m]).sym, [32, 64][m]);
@@ -231,7 +197,7 @@ fn named(wrong: &mut bool) {
 /// A tracker that keeps the rule, with n calls made, each clause then broken alone: the number, and every byte left.
 fn broken(wrong: &mut bool) {
     let mut s = Section::new("tracker, broken rules, refusals 1, 4, 8, 9, 10 and untouched bytes");
-    let mut r = Random(4 << 40);
+    let mut r = Dice(4 << 40);
     for round in 0..40_000u64 {
         let m = (round & 1) as usize;
         let (sym, length) = (Fmt::of(MODES[m]).sym, [32usize, 64][m]);

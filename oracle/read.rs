@@ -1,8 +1,9 @@
 // A header read: the entry against the Rust's `decode_tb` over the same terms, its refusals against document 01's table, and demand 3 by
 // counting every walk of small codes of the same shape.
+use super::inputs::{Dice, STYLES, rows, styled};
 use super::{KINDS, MODES, REFUSED, Section};
 use ion::fec::conv::ConvCode;
-use ion::phy_mfsk::hook::{Fmt, Kind, MfskMode, Terms, air, code, decode_terms, decode_terms_told};
+use ion::phy_mfsk::hook::{Fmt, Kind, air, code, decode_terms, decode_terms_told};
 
 unsafe extern "C" {
     fn probe_read_header(
@@ -52,72 +53,6 @@ pub fn read(mode: u8, kind: u8, terms: &[f32], a: &mut Areas) -> Answer {
         )
     };
     Answer { refused, word: answer[0], outcome: answer[1], pass: answer[2], score: score[0] }
-}
-
-pub fn rows(terms: &[f32]) -> Vec<Terms> {
-    terms.chunks(260).map(|s| std::array::from_fn(|r| std::array::from_fn(|p| s[52 * r + p]))).collect()
-}
-
-/// A stream of words from a seed.
-pub struct Dice(pub u64);
-impl Dice {
-    pub fn word(&mut self) -> u64 {
-        self.0 = self.0.wrapping_add(1);
-        air::mix64(self.0)
-    }
-    pub fn below(&mut self, n: u64) -> u64 {
-        self.word() % n
-    }
-    /// Near a normal number: the sum of twelve less six.
-    fn normal(&mut self) -> f32 {
-        (0..12).map(|_| self.below(1 << 20) as f32 / (1 << 20) as f32).sum::<f32>() - 6.0
-    }
-}
-
-/// Terms in which the sent value of each slot has `strength` in row 2, over what `noise` gives.
-pub fn terms(mode: MfskMode, kind: Kind, word: u64, strength: f32, mut noise: impl FnMut() -> f32) -> Vec<f32> {
-    let fmt = Fmt::of(mode);
-    let n = air::header_info_bits(kind);
-    let bits: Vec<u8> = (0..n).map(|j| (word >> j & 1) as u8).collect();
-    let sent = air::header_values(mode, kind, &bits);
-    let mut t: Vec<f32> = (0..260 * n).map(|_| noise()).collect();
-    for (s, v) in sent.iter().enumerate() {
-        t[260 * s + 2 * 52 + fmt.tone_bin(fmt.hop(s), 0, v[0] as usize) + 2] += strength;
-    }
-    t
-}
-
-pub const STYLES: [&str; 9] =
-    ["clean", "noisy", "noise only", "all equal", "tied: whole -1 to 1", "whole to ±800", "to ±1,000,000", "subnormal and -0.0", "sparse whole 0 to 3"];
-
-fn styled(style: usize, mode: MfskMode, kind: Kind, d: &mut Dice) -> Vec<f32> {
-    let word = d.word();
-    match style {
-        0 => terms(mode, kind, word, 8.0, || 0.0),
-        1 => {
-            let strength = 2.0 + d.below(30) as f32 / 10.0;
-            terms(mode, kind, word, strength, || d.normal())
-        }
-        2 => terms(mode, kind, word, 0.0, || d.normal()),
-        3 => {
-            let all = [0.0, -0.0, 1.0, -800.0, 1e6, -1e6, f32::MIN_POSITIVE, -1e-45][d.below(8) as usize];
-            terms(mode, kind, word, 0.0, || all)
-        }
-        4 => {
-            let strength = d.below(4) as f32;
-            terms(mode, kind, word, strength, || d.below(3) as f32 - 1.0)
-        }
-        5 => {
-            let strength = d.below(1600) as f32;
-            terms(mode, kind, word, 0.0, || d.below(1601) as f32 - 800.0).into_iter().zip(terms(mode, kind, word, strength, || 0.0)).map(|(a, b)| (a + b).clamp(-800.0, 800.0)).collect()
-        }
-        6 => terms(mode, kind, word, 0.0, || (d.below(2_000_001) as f32 - 1e6).clamp(-1e6, 1e6) * [1.0, 1e-3, 1e-9][d.below(3) as usize]),
-        7 => terms(mode, kind, word, 0.0, || [-0.0, 0.0, 1e-45, -1e-45, 1e-40, -3e-41, f32::MIN_POSITIVE, -1.5][d.below(8) as usize]),
-        _ => {
-            let one_in = 20 + d.below(400);
-            terms(mode, kind, word, 0.0, || if d.below(one_in) == 0 { d.below(4) as f32 } else { 0.0 })
-        }
-    }
 }
 
 /// One header: five pairs (answered, word, score's bits, outcome and pass, areas as zeros).
@@ -287,28 +222,6 @@ fn every_walk(wrong: &mut bool) {
     }
     print!("handed out as closed {}, out in pass 1 {}, a closed word beats every other walk {}, Open {}; ", met[0], met[1], met[2], met[3]);
     s.end(wrong);
-}
-
-/// The time of `count` headers of 64 symbols, ours and the Rust's by turns, its table of labels made beforehand.
-pub fn time(count: u64) {
-    let c = code();
-    for style in [0, 2] {
-        let (mut ours, mut theirs) = (std::time::Duration::ZERO, std::time::Duration::ZERO);
-        for i in 0..count {
-            let mut d = Dice(1 << 50 | i << 20);
-            let t = styled(style, MODES[0], KINDS[1], &mut d);
-            let r = rows(&t);
-            let mut areas = Areas::new(64);
-            let begun = std::time::Instant::now();
-            std::hint::black_box(read(0, 1, &t, &mut areas).word);
-            ours += begun.elapsed();
-            let begun = std::time::Instant::now();
-            std::hint::black_box(decode_terms(&c, MODES[0], KINDS[1], &r));
-            theirs += begun.elapsed();
-        }
-        let ms = |d: std::time::Duration| d.as_secs_f64() * 1e3 / count as f64;
-        println!("{}: {count} headers of 64 symbols, {:.2} ms a header, the Rust {:.2} ms, ratio {:.2}", STYLES[style], ms(ours), ms(theirs), ms(ours) / ms(theirs));
-    }
 }
 
 pub fn all(wrong: &mut bool, count: u64) {

@@ -1,4 +1,5 @@
 // A header sent: the entry against the Rust's `encode_tb` and `header_values`, and its refusals against document 01's table.
+use super::inputs::bits_of;
 use super::{KINDS, MODES, REFUSED, Section};
 use ion::phy_mfsk::hook::{Fmt, air, code};
 
@@ -11,10 +12,6 @@ const UNTOUCHED: u8 = 0xA5;
 
 fn sent(mode: u8, kind: u8, bits: &[u8], values: &mut [u8]) -> u64 {
     unsafe { probe_header_values(mode, kind, bits.as_ptr(), bits.len(), values.as_mut_ptr(), values.len()) }
-}
-
-fn bits_of(word: u64, n: usize) -> Vec<u8> {
-    (0..n).map(|j| (word >> j & 1) as u8).collect()
 }
 
 /// One header in both modes, three pairs each: the answer, how many slots differ from `header_values`, how many steps from `encode_tb`.

@@ -1,7 +1,8 @@
 // Metrics and soft bits: the entry against the second half of the Rust's `service_burst` with document 01's two stand-ins inside
 // `lse`, bit for bit; its refusals against document 01's table; and how far the stand-ins lie from the library's functions.
+use super::inputs::{self, dirty, rows};
 use super::{KINDS, MODES, REFUSED, Section};
-use ion::phy_mfsk::hook::{Terms, air, blanked_frac, soft_terms, windows};
+use ion::phy_mfsk::hook::{air, blanked_frac, soft_terms, windows};
 
 unsafe extern "C" {
     fn probe_soft_values(
@@ -31,18 +32,13 @@ fn patterns(list: &[f32]) -> Vec<u32> {
     list.iter().map(|x| x.to_bits()).collect()
 }
 
-fn dirty(n: usize, r: &mut Random) -> Vec<f32> {
-    // quiet and signalling NaNs of both signs, and any other pattern
-    (0..n).map(|i| f32::from_bits([0x7f80_0001, 0xffc1_2345, 0x8000_0000, r.next() as u32][i % 4])).collect()
-}
-
 impl Lent {
     /// A burst with lists of its lengths; terms and counts to be filled.
     fn new(mode: u8, kind: u8, form: u8, window: u32, bits: u32, r: &mut Random) -> Self {
         let n = bits.div_ceil(5) as usize;
         Lent {
             mode, kind, form, window, bits, terms: vec![0.0; 260 * n], blanked: vec![0; n],
-            work: dirty(32 * n, r), metrics: dirty(32 * n, r), soft: dirty(bits as usize, r),
+            work: dirty(32 * n, || r.next()), metrics: dirty(32 * n, || r.next()), soft: dirty(bits as usize, || r.next()),
         }
     }
     fn call(&mut self) -> u64 {
@@ -73,42 +69,17 @@ impl Random {
     }
 }
 
-/// Terms of one of ten kinds: noise, far apart, at the limit, ties, subnormal and zeros of both signs, one strong tone, whole numbers.
 fn fill_terms(b: &mut Lent, style: u64, r: &mut Random) {
-    let unit = |r: &mut Random| (r.next() >> 40) as f32 / (1u64 << 24) as f32 * 2.0 - 1.0;
-    for (i, t) in b.terms.iter_mut().enumerate() {
-        *t = match style % 10 {
-            0 => unit(r) * 4.0,
-            1 => unit(r) * 1_000_000.0,
-            2 => [1_000_000.0, -1_000_000.0, 999_999.94, -0.0][r.below(4) as usize],
-            3 => [0.0, 1.0, -1.0][r.below(3) as usize],
-            4 => f32::from_bits((r.next() as u32) & 0x807f_ffff),
-            5 => [0.0, -0.0][r.below(2) as usize],
-            6 => if i % 37 == 5 { 30.0 } else { unit(r) },
-            7 => (r.below(41) as f32) - 20.0,
-            8 => unit(r) * 0.01,
-            _ => unit(r) * 40.0,
-        };
-    }
+    inputs::fill_terms(&mut b.terms, style, || r.next())
 }
 
-/// Counts: none, at the limit, one above it, in their whole range, or a mix.
 fn fill_counts(b: &mut Lent, style: u64, r: &mut Random) {
-    let half = 7 * b.window / 2;
-    for c in &mut b.blanked {
-        *c = match style % 5 {
-            0 => 0,
-            1 => half,
-            2 => half + 1,
-            3 => r.below(255 * b.window as u64 + 1) as u32,
-            _ => [0, half - 1, half, half + 1, 255 * b.window][r.below(5) as usize],
-        };
-    }
+    inputs::fill_counts(&mut b.blanked, b.window, style, || r.next())
 }
 
 /// One burst on both sides: the answer, and how many metrics, soft bits and places of the work area differ.
 fn burst(s: &mut Section, floats: &mut u64, b: &mut Lent) {
-    let terms: Vec<Terms> = b.terms.chunks_exact(260).map(|t| std::array::from_fn(|j| std::array::from_fn(|e| t[52 * j + e]))).collect();
+    let terms = rows(&b.terms);
     let blanked: Vec<f32> = b.blanked.iter().map(|&c| blanked_frac(c, b.window as usize, 1)).collect();
     let hsyms = air::header_info_bits(KINDS[b.kind as usize]);
     let want = soft_terms(MODES[b.mode as usize], b.form == 1, hsyms, b.bits as usize, &terms, &blanked);

@@ -1,0 +1,147 @@
+// Inputs that more than one of the programs here draws: a stream of words, a header's terms in nine styles, terms and counts of soft
+// values in ten and five, and the samples of a tracker's series in eight shapes.
+#![allow(dead_code)] // no program draws all of them
+use ion::phy_mfsk::hook::{Fmt, Kind, MfskMode, Terms, air};
+
+/// A stream of words from a seed.
+pub struct Dice(pub u64);
+impl Dice {
+    pub fn word(&mut self) -> u64 {
+        self.0 = self.0.wrapping_add(1);
+        air::mix64(self.0)
+    }
+    pub fn below(&mut self, n: u64) -> u64 {
+        self.word() % n
+    }
+    /// One of a list.
+    pub fn of<T: Copy>(&mut self, list: &[T]) -> T {
+        list[self.below(list.len() as u64) as usize]
+    }
+    /// From 0 up to 1.
+    pub fn unit(&mut self) -> f64 {
+        (self.word() >> 11) as f64 / (1u64 << 53) as f64
+    }
+    /// Near a normal number: the sum of twelve less six.
+    pub fn normal(&mut self) -> f32 {
+        (0..12).map(|_| self.below(1 << 20) as f32 / (1 << 20) as f32).sum::<f32>() - 6.0
+    }
+}
+
+/// The Rust's rows of a list of terms.
+pub fn rows(terms: &[f32]) -> Vec<Terms> {
+    terms.chunks_exact(260).map(|s| std::array::from_fn(|r| std::array::from_fn(|p| s[52 * r + p]))).collect()
+}
+
+/// A header's word with bit j at place j from the lowest, as bytes.
+pub fn bits_of(word: u64, n: usize) -> Vec<u8> {
+    (0..n).map(|j| (word >> j & 1) as u8).collect()
+}
+
+/// Where the sent value of each slot of a header lies in row 2 of its terms.
+pub fn sent_places(mode: MfskMode, kind: Kind, word: u64) -> Vec<usize> {
+    let fmt = Fmt::of(mode);
+    let sent = air::header_values(mode, kind, &bits_of(word, air::header_info_bits(kind)));
+    sent.iter().enumerate().map(|(s, v)| 260 * s + 2 * 52 + fmt.tone_bin(fmt.hop(s), 0, v[0] as usize) + 2).collect()
+}
+
+/// Terms in which the sent value of each slot has `strength` in row 2, over what `noise` gives.
+pub fn terms(mode: MfskMode, kind: Kind, word: u64, strength: f32, mut noise: impl FnMut() -> f32) -> Vec<f32> {
+    let mut t: Vec<f32> = (0..260 * air::header_info_bits(kind)).map(|_| noise()).collect();
+    for at in sent_places(mode, kind, word) {
+        t[at] += strength;
+    }
+    t
+}
+
+pub const STYLES: [&str; 9] =
+    ["clean", "noisy", "noise only", "all equal", "tied: whole -1 to 1", "whole to ±800", "to ±1,000,000", "subnormal and -0.0", "sparse whole 0 to 3"];
+
+pub fn styled(style: usize, mode: MfskMode, kind: Kind, d: &mut Dice) -> Vec<f32> {
+    let word = d.word();
+    match style {
+        0 => terms(mode, kind, word, 8.0, || 0.0),
+        1 => {
+            let strength = 2.0 + d.below(30) as f32 / 10.0;
+            terms(mode, kind, word, strength, || d.normal())
+        }
+        2 => terms(mode, kind, word, 0.0, || d.normal()),
+        3 => {
+            let all = [0.0, -0.0, 1.0, -800.0, 1e6, -1e6, f32::MIN_POSITIVE, -1e-45][d.below(8) as usize];
+            terms(mode, kind, word, 0.0, || all)
+        }
+        4 => {
+            let strength = d.below(4) as f32;
+            terms(mode, kind, word, strength, || d.below(3) as f32 - 1.0)
+        }
+        5 => {
+            let strength = d.below(1600) as f32;
+            terms(mode, kind, word, 0.0, || d.below(1601) as f32 - 800.0).into_iter().zip(terms(mode, kind, word, strength, || 0.0)).map(|(a, b)| (a + b).clamp(-800.0, 800.0)).collect()
+        }
+        6 => terms(mode, kind, word, 0.0, || (d.below(2_000_001) as f32 - 1e6).clamp(-1e6, 1e6) * [1.0, 1e-3, 1e-9][d.below(3) as usize]),
+        7 => terms(mode, kind, word, 0.0, || [-0.0, 0.0, 1e-45, -1e-45, 1e-40, -3e-41, f32::MIN_POSITIVE, -1.5][d.below(8) as usize]),
+        _ => {
+            let one_in = 20 + d.below(400);
+            terms(mode, kind, word, 0.0, || if d.below(one_in) == 0 { d.below(4) as f32 } else { 0.0 })
+        }
+    }
+}
+
+/// Floats with quiet and signalling NaNs of both signs among them, -0.0, and any other pattern: what a lent list holds before a call.
+pub fn dirty(n: usize, mut word: impl FnMut() -> u64) -> Vec<f32> {
+    (0..n).map(|i| f32::from_bits([0x7f80_0001, 0xffc1_2345, 0x8000_0000, word() as u32][i % 4])).collect()
+}
+
+/// Terms of one of ten kinds: noise, far apart, at the limit, ties, subnormal and zeros of both signs, one strong tone, whole numbers.
+pub fn fill_terms(terms: &mut [f32], style: u64, mut word: impl FnMut() -> u64) {
+    for (i, t) in terms.iter_mut().enumerate() {
+        let mut unit = || (word() >> 40) as f32 / (1u64 << 24) as f32 * 2.0 - 1.0;
+        *t = match style % 10 {
+            0 => unit() * 4.0,
+            1 => unit() * 1_000_000.0,
+            2 => [1_000_000.0, -1_000_000.0, 999_999.94, -0.0][word() as usize % 4],
+            3 => [0.0, 1.0, -1.0][(word() % 3) as usize],
+            4 => f32::from_bits((word() as u32) & 0x807f_ffff),
+            5 => [0.0, -0.0][word() as usize % 2],
+            6 => if i % 37 == 5 { 30.0 } else { unit() },
+            7 => ((word() % 41) as f32) - 20.0,
+            8 => unit() * 0.01,
+            _ => unit() * 40.0,
+        };
+    }
+}
+
+/// Counts: none, at the limit, one above it, in their whole range, or a mix.
+pub fn fill_counts(blanked: &mut [u32], window: u32, style: u64, mut word: impl FnMut() -> u64) {
+    let half = 7 * window / 2;
+    for c in blanked {
+        *c = match style % 5 {
+            0 => 0,
+            1 => half,
+            2 => half + 1,
+            3 => (word() % (255 * window as u64 + 1)) as u32,
+            _ => [0, half - 1, half, half + 1, 255 * window][(word() % 5) as usize],
+        };
+    }
+}
+
+pub type Heard = Option<(f64, f64, f64)>;
+
+/// The sample of call c in a series of one of eight shapes.
+pub fn sample(r: &mut Dice, shape: u64, ppm: f64, sym: f64, c: usize, shift: i32) -> Heard {
+    let e = 10f64.powf(9.0 * r.unit());
+    match shape {
+        0 => (r.below(5) > 0).then(|| (e * r.unit(), e * r.unit(), e * r.unit())),
+        1 | 2 => {
+            let off = (ppm * 1e-6 * sym * c as f64 - shift as f64).clamp(-16.0, 16.0) + if shape == 2 { 6.0 * (r.unit() - 0.5) } else { 0.0 };
+            Some((1e4 * (1.0 - off / 60.0), 1e4 * (1.0 + off / 60.0), 10.0 * r.unit()))
+        }
+        3 => {
+            let faded = c / 150 % 2 == 1;
+            (!faded && r.below(4) > 0).then(|| (1e3 * r.unit(), 1e3 * r.unit() + ppm.abs(), 2e3 * r.unit()))
+        }
+        4 => Some(([0.0, -0.0, 1.0][r.below(3) as usize], [0.0, -0.0, 1.0][r.below(3) as usize], [0.0, -0.0, 2.0][r.below(3) as usize])),
+        5 => Some(([0.0, 1e9][r.below(2) as usize], [0.0, 1e9][r.below(2) as usize], [0.0, 1e9, 5e-324][r.below(3) as usize])),
+        6 => Some((-0.0, -0.0, 0.0)),
+        _ => Some((1e9, 0.0, 0.0)).filter(|_| ppm > 0.0).or(Some((0.0, 1e9, 0.0))),
+    }
+}
