@@ -64,6 +64,14 @@ impl Tracker {
     pub fn new(mode: MfskMode) -> Self {
         Tracker(active(mode, false, 0, 0, 0, Fmt::of(mode).sym, some_params()), Fmt::of(mode))
     }
+    /// In any state: the shift, (tnum, tden, drift), how many symbols wait for their block's end, the stored shifts and the blocks.
+    pub fn at(mode: MfskMode, shift: i32, sums: (f64, f64, f64), waiting: usize, shifts: &[i32], blocks: &[(f64, f64)]) -> Self {
+        let mut t = Tracker::new(mode);
+        (t.0.next, t.0.shift, t.0.tcnt) = (shifts.len(), shift, waiting);
+        (t.0.tnum, t.0.tden, t.0.drift) = sums;
+        (t.0.shifts, t.0.blocks) = (shifts.to_vec(), blocks.to_vec());
+        t
+    }
     /// (shift, tnum, tden, tcnt, drift) and the blocks.
     pub fn state(&self) -> (usize, i32, f64, f64, usize, f64) {
         (self.0.next, self.0.shift, self.0.tnum, self.0.tden, self.0.tcnt, self.0.drift)

@@ -1,0 +1,143 @@
+// The C functions of libion.a as include/ion.h declares them, over slices and raw numbers, so that any number can be given.
+// A lent slice is two arguments, its first element and its length.
+unsafe extern "C" {
+    fn ion_interleave_mult(n: u64, mult: *mut u64) -> u32;
+    fn ion_crc(mode: u8, kind: u8, bits: *const u8, bits_len: usize, crc: *mut u16) -> u32;
+    fn ion_header_values(mode: u8, kind: u8, bits: *const u8, bits_len: usize, values: *mut u8, values_len: usize) -> u32;
+    fn ion_read_header(
+        mode: u8, kind: u8, terms: *const f32, terms_len: usize, scores: *mut f32, scores_len: usize, next: *mut f32, next_len: usize, start: *mut f32,
+        start_len: usize, decisions: *mut u64, decisions_len: usize, word: *mut u64, outcome: *mut u8, pass: *mut u8, score: *mut f32,
+    ) -> u32;
+    fn ion_soft_values(
+        mode: u8, kind: u8, symbols: u8, window: u32, bits: u32, terms: *const f32, terms_len: usize, blanked: *const u32, blanked_len: usize,
+        work: *mut f32, work_len: usize, metrics: *mut f32, metrics_len: usize, soft: *mut f32, soft_len: usize,
+    ) -> u32;
+    fn ion_fit_drift(mode: u8, places: *const u32, places_len: usize, timings: *const f64, timings_len: usize, drift: *mut f64) -> u32;
+    #[cfg(not(tracker_by_probe))]
+    fn ion_track_timing(
+        mode: u8, n: *mut usize, shift: *mut i32, tnum: *mut f64, tden: *mut f64, drift: *mut f64, blocks: *mut usize, shifts: *mut i32, shifts_len: usize,
+        places: *mut u32, places_len: usize, timings: *mut f64, timings_len: usize, heard: u8, early: f64, late: f64, noise: f64,
+    ) -> u32;
+}
+
+pub fn interleave_mult(n: u64, mult: &mut u64) -> u32 {
+    unsafe { ion_interleave_mult(n, mult) }
+}
+
+pub fn crc(mode: u8, kind: u8, bits: &[u8], crc: &mut u16) -> u32 {
+    unsafe { ion_crc(mode, kind, bits.as_ptr(), bits.len(), crc) }
+}
+
+pub fn header_values(mode: u8, kind: u8, bits: &[u8], values: &mut [u8]) -> u32 {
+    unsafe { ion_header_values(mode, kind, bits.as_ptr(), bits.len(), values.as_mut_ptr(), values.len()) }
+}
+
+/// What is lent to a header read: three areas of scores and one of decisions, and the places of the answer.
+pub struct Header {
+    pub scores: [Vec<f32>; 3],
+    pub decisions: Vec<u64>,
+    pub word: u64,
+    pub outcome: u8,
+    pub pass: u8,
+    pub score: f32,
+}
+
+impl Header {
+    /// The four areas' lengths for a header of n symbols.
+    pub fn lengths(n: usize) -> [usize; 4] {
+        [16_384, 16_384, 16_384, 256 * n]
+    }
+    pub fn read(&mut self, mode: u8, kind: u8, terms: &[f32]) -> u32 {
+        let [scores, next, start] = &mut self.scores;
+        unsafe {
+            ion_read_header(
+                mode, kind, terms.as_ptr(), terms.len(), scores.as_mut_ptr(), scores.len(), next.as_mut_ptr(), next.len(), start.as_mut_ptr(), start.len(),
+                self.decisions.as_mut_ptr(), self.decisions.len(), &mut self.word, &mut self.outcome, &mut self.pass, &mut self.score,
+            )
+        }
+    }
+}
+
+/// What is lent for soft values.
+#[derive(Clone)]
+pub struct Soft {
+    pub mode: u8,
+    pub kind: u8,
+    pub symbols: u8,
+    pub window: u32,
+    pub bits: u32,
+    pub terms: Vec<f32>,
+    pub blanked: Vec<u32>,
+    pub work: Vec<f32>,
+    pub metrics: Vec<f32>,
+    pub soft: Vec<f32>,
+}
+
+impl Soft {
+    pub fn values(&mut self) -> u32 {
+        unsafe {
+            ion_soft_values(
+                self.mode, self.kind, self.symbols, self.window, self.bits, self.terms.as_ptr(), self.terms.len(), self.blanked.as_ptr(), self.blanked.len(),
+                self.work.as_mut_ptr(), self.work.len(), self.metrics.as_mut_ptr(), self.metrics.len(), self.soft.as_mut_ptr(), self.soft.len(),
+            )
+        }
+    }
+}
+
+pub fn fit_drift(mode: u8, places: &[u32], timings: &[f64], drift: &mut f64) -> u32 {
+    unsafe { ion_fit_drift(mode, places.as_ptr(), places.len(), timings.as_ptr(), timings.len(), drift) }
+}
+
+/// A tracker, its lists beside it.
+#[derive(Clone)]
+pub struct Tracker {
+    pub n: usize,
+    pub shift: i32,
+    pub tnum: f64,
+    pub tden: f64,
+    pub drift: f64,
+    pub blocks: usize,
+    pub shifts: Vec<i32>,
+    pub places: Vec<u32>,
+    pub timings: Vec<f64>,
+}
+
+impl Tracker {
+    pub fn track(&mut self, mode: u8, heard: u8, early: f64, late: f64, noise: f64) -> u32 {
+        unsafe {
+            ion_track_timing(
+                mode, &mut self.n, &mut self.shift, &mut self.tnum, &mut self.tden, &mut self.drift, &mut self.blocks, self.shifts.as_mut_ptr(),
+                self.shifts.len(), self.places.as_mut_ptr(), self.places.len(), self.timings.as_mut_ptr(), self.timings.len(), heard, early, late, noise,
+            )
+        }
+    }
+}
+
+// Until libion.a has the tracker it is reached through the probe library, whose function takes the counts and the sums in lists, has no
+// answer for two lengths, and knows Heard as 1 alone.
+#[cfg(tracker_by_probe)]
+#[allow(clippy::too_many_arguments)]
+unsafe fn ion_track_timing(
+    mode: u8, n: *mut usize, shift: *mut i32, tnum: *mut f64, tden: *mut f64, drift: *mut f64, blocks: *mut usize, shifts: *mut i32, shifts_len: usize,
+    places: *mut u32, places_len: usize, timings: *mut f64, timings_len: usize, heard: u8, early: f64, late: f64, noise: f64,
+) -> u32 {
+    unsafe extern "C" {
+        fn probe_track(
+            mode: u8, counts: *mut u64, two: usize, shift: *mut i32, one: usize, sums: *mut f64, three: usize, shifts: *mut i32, stored: usize,
+            places: *mut u32, n: usize, timings: *mut f64, m: usize, heard: u8, early: f64, late: f64, noise: f64,
+        ) -> u64;
+    }
+    if places_len != timings_len {
+        return if mode > 1 { 1 } else { 4 };
+    }
+    unsafe {
+        let (mut counts, mut sums) = ([*n as u64, *blocks as u64], [*tnum, *tden, *drift]);
+        let k = probe_track(
+            mode, counts.as_mut_ptr(), 2, shift, 1, sums.as_mut_ptr(), 3, shifts, shifts_len, places, places_len, timings, timings_len, (heard != 0) as u8, early,
+            late, noise,
+        );
+        (*n, *blocks) = (counts[0] as usize, counts[1] as usize);
+        (*tnum, *tden, *drift) = (sums[0], sums[1], sums[2]);
+        k as u32
+    }
+}

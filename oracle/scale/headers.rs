@@ -1,0 +1,199 @@
+// A header read against `decode_tb` over the same terms. Most inputs close in the first pass, which is what a receiver meets and what
+// costs least; the rest are chosen so that every outcome is met often.
+use crate::check::Check;
+use crate::face::Header;
+use crate::inputs::{Dice, dirty, rows, sent_places, styled};
+use crate::jobs::{Job, Oracle};
+use crate::made::{How, KINDS, MODES, made};
+use crate::small::{bad_name, header_bits};
+use ion::phy_mfsk::hook::{Fmt, decode_terms_told, windows};
+
+const OUTCOMES: &[&str] = &["Sure 1", "Sure 2", "Sure 3", "Kept", "Open"];
+
+/// What is lent, with other bits in every place of it.
+fn lent(d: &mut Dice, lengths: [usize; 4]) -> Header {
+    let mut list = |n| dirty(n, || d.word());
+    let scores = [list(lengths[0]), list(lengths[1]), list(lengths[2])];
+    Header { scores, decisions: (0..lengths[3]).map(|_| d.word()).collect(), word: d.word(), outcome: 0xA5, pass: 0x5A, score: f32::from_bits(0x7f80_0001) }
+}
+
+/// Of several causes the lowest number.
+fn table(mode: u8, kind: u8, terms: &[f32], lengths: [usize; 4]) -> u32 {
+    let n = header_bits(kind);
+    match () {
+        _ if mode > 1 || kind > 2 => 1,
+        _ if terms.len() != 260 * n || lengths != Header::lengths(n) => 4,
+        _ if terms.iter().any(|t| !(t.abs() <= 1_000_000.0)) => 6,
+        _ => 0,
+    }
+}
+
+/// One header on both sides, with areas of these lengths: the number, the answer, every lent byte.
+pub fn read(o: &Oracle, c: &mut Check, d: &mut Dice, mode: u8, kind: u8, mut terms: Vec<f32>, lengths: [usize; 4]) {
+    let (before, want) = (terms.clone(), table(mode, kind, &terms, lengths));
+    let mut ours = lent(d, lengths);
+    let left = (want != 0).then(|| (ours.scores.clone(), ours.decisions.clone(), ours.word));
+    c.one("number", &mut ours.read(mode, kind, &terms), want);
+    if let Some((scores, decisions, word)) = left {
+        (0..3).for_each(|i| c.list(["scores", "next", "start"][i], &mut ours.scores[i], &scores[i]));
+        c.list("decisions", &mut ours.decisions, &decisions);
+        c.one("word's place", &mut ours.word, word);
+        c.one("outcome's place", &mut ours.outcome, 0xA5);
+        c.one("pass's place", &mut ours.pass, 0x5A);
+        c.one("score's place", &mut ours.score, f32::from_bits(0x7f80_0001));
+        c.refused(want);
+    } else {
+        let (bits, score, (outcome, pass, _)) = decode_terms_told(&o.code, MODES[mode as usize], KINDS[kind as usize], &rows(&before));
+        c.one("word", &mut ours.word, bits.iter().rev().fold(0u64, |w, &b| w << 1 | b as u64));
+        c.one("outcome", &mut ours.outcome, outcome);
+        c.one("pass", &mut ours.pass, pass);
+        c.one("score", &mut ours.score, score);
+        (0..3).for_each(|i| c.all(["scores", "next", "start"][i], &mut ours.scores[i], 0.0));
+        c.all("decisions", &mut ours.decisions, 0);
+        c.answered(match outcome { 0 => pass as usize - 1, k => 2 + k as usize });
+    }
+    c.list("the terms", &mut terms, &before);
+}
+
+/// Mode and kind: seven of eight headers have 48 symbols, which cost less.
+fn named(d: &mut Dice, i: u64) -> (u8, u8) {
+    (d.below(2) as u8, [0, 2, 0, 2, 0, 2, 0, 1][i as usize % 8])
+}
+
+/// How a burst is sent and what the channel does to it: from clean to fading under a carrier.
+pub fn channel(d: &mut Dice, mode: u8, kind: u8, bits: u32) -> How {
+    let mut how = How { mode, kind, bits, symbols: d.below(2) == 1, window: windows(MODES[mode as usize])[d.below(3) as usize] as u32, ..How::default() };
+    (how.snr, how.doppler, how.delay) = match d.below(4) {
+        0 => (20.0, 0.0, 0.0),
+        1 => (3.0 + 9.0 * d.unit(), 0.0, 0.0),
+        2 => (9.0 + 12.0 * d.unit(), 0.1 + d.unit(), 2.0 * d.unit()),
+        _ => (6.0 + 12.0 * d.unit(), 0.5 + 2.0 * d.unit(), 4.0 * d.unit()),
+    };
+    how.carrier = (d.below(4) == 0).then(|| 20.0 * d.unit() - 6.0);
+    how.blanked = if d.below(3) == 0 { d.unit() } else { 0.0 };
+    how
+}
+
+fn by_channel(o: &Oracle, d: &mut Dice, i: u64, c: &mut Check) {
+    let (mode, kind) = named(d, i);
+    let how = channel(d, mode, kind, 0);
+    let b = made(d.word(), &how);
+    read(o, c, d, mode, kind, b.header_terms, Header::lengths(header_bits(kind)))
+}
+
+/// Near a normal number of spread 1, from one word.
+fn noise(d: &mut Dice) -> f32 {
+    let w = d.word();
+    ((w & 0xFFFF) + (w >> 16 & 0xFFFF) + (w >> 32 & 0xFFFF) + (w >> 48)) as f32 * (1.0 / 37_837.0) - 3.464
+}
+
+/// Terms made without a channel: clean, noisy, faded, under a carrier, with crashes, of whole numbers.
+fn by_terms(o: &Oracle, d: &mut Dice, i: u64, c: &mut Check) {
+    let (mode, kind) = named(d, i / 6);
+    let (m, k, n, word) = (MODES[mode as usize], KINDS[kind as usize], header_bits(kind), d.word());
+    let strong = 7.0 + 20.0 * d.unit() as f32;
+    let mut t = match i % 6 {
+        0 => vec![0.0; 260 * n],
+        5 => (0..260 * n).map(|_| d.below(5) as f32 - 2.0).collect(),
+        _ => (0..260 * n).map(|_| noise(d)).collect::<Vec<f32>>(),
+    };
+    let (pace, from, crash) = (0.3 * d.unit(), 6.3 * d.unit(), 1 + d.below(n as u64 / 8));
+    for (s, at) in sent_places(m, k, word).into_iter().enumerate() {
+        t[at] += match i % 6 {
+            2 => strong * (0.2 + 2.0 * (pace * s as f64 + from).sin().abs() as f32),
+            5 => strong.round() + 3.0,
+            _ => strong,
+        };
+    }
+    match i % 6 {
+        3 => {
+            // a carrier, keyed on somewhere, that reaches the places beside its bin as well
+            let (bin, first, level) = (d.below(Fmt::of(m).nbins as u64) as usize, d.below(n as u64) as usize, 0.3 * strong);
+            for s in first..n {
+                for row in 0..5 {
+                    t[260 * s + 52 * row + bin + row] += level * (0.5 + 0.5 * d.unit() as f32);
+                }
+            }
+        }
+        4 => {
+            for _ in 0..crash {
+                let s = d.below(n as u64) as usize;
+                t[260 * s..260 * (s + 1)].iter_mut().for_each(|x| *x = 4.0 * noise(d));
+            }
+        }
+        _ => (),
+    }
+    read(o, c, d, mode, kind, t, Header::lengths(n))
+}
+
+/// No header, or one that ties: noise, equal and whole terms, the range's ends, subnormal numbers, any bits within the range, and
+/// another header's symbols in every other slot.
+fn random(o: &Oracle, d: &mut Dice, i: u64, c: &mut Check) {
+    let (mode, kind) = named(d, i / 10);
+    let (m, k, n) = (MODES[mode as usize], KINDS[kind as usize], header_bits(kind));
+    let t = match i % 10 {
+        style @ 0..=7 => styled(style as usize + 1, m, k, d),
+        8 => (0..260 * n)
+            .map(|_| {
+                let x = f32::from_bits(d.word() as u32);
+                if x.abs() <= 1e6 { x } else { f32::from_bits(x.to_bits() & 0xbfff_ffff) }
+            })
+            .map(|x| if x.abs() <= 1e6 { x } else { -0.0 })
+            .collect(),
+        _ => {
+            let (a, b, s) = (d.word(), d.word(), 4.0 + d.below(8) as f32);
+            let mut t: Vec<f32> = (0..260 * n).map(|_| noise(d)).collect();
+            let (a, b) = (sent_places(m, k, a), sent_places(m, k, b));
+            (0..n).for_each(|j| t[if j % 2 == 0 { a[j] } else { b[j] }] += s);
+            t
+        }
+    };
+    read(o, c, d, mode, kind, t, Header::lengths(n))
+}
+
+/// A good header with one to three damages: names, five lengths, terms out of range. Some are harmless, and are then read.
+fn damaged(o: &Oracle, d: &mut Dice, _: u64, c: &mut Check) {
+    let (mut mode, mut kind) = (d.below(2) as u8, d.below(3) as u8);
+    let n = header_bits(kind);
+    let mut lengths = Header::lengths(n);
+    let mut t: Vec<f32> = (0..260 * n).map(|_| noise(d)).collect();
+    sent_places(MODES[mode as usize], KINDS[kind as usize], d.word()).into_iter().for_each(|at| t[at] += 9.0);
+    for _ in 0..1 + d.below(3) {
+        match d.below(24) {
+            0 => mode = bad_name(d, 2),
+            1 => kind = bad_name(d, 3),
+            2 => kind = [1, 0, 1][kind as usize % 3],
+            3..=6 => t.resize(d.of(&[0, 1, 259, 260, 260 * n - 1, 260 * n + 1, 260 * (n - 1), 260 * (n + 1), 260 * (112 - n)]), 0.5),
+            7..=14 => {
+                let which = d.below(4) as usize;
+                let right = Header::lengths(n)[which];
+                lengths[which] = d.of(&[0, 1, right - 1, right + 1, right / 2, right - 256, right + 256, 256 * (112 - n)]);
+            }
+            15..=22 if !t.is_empty() => {
+                let at = match d.below(3) { 0 => 0, 1 => t.len() - 1, _ => d.below(t.len() as u64) as usize };
+                t[at] = d.of(&BAD_TERMS);
+            }
+            _ => {
+                // at the limit and no further
+                let at = d.below(t.len().max(1) as u64) as usize;
+                t.get_mut(at).into_iter().for_each(|x| *x = d.of(&[1e6, -1e6, -0.0, 1e-45]));
+            }
+        }
+    }
+    read(o, c, d, mode, kind, t, lengths)
+}
+
+/// Not finite, or just beyond ±1,000,000: NaNs quiet and signalling and of both signs.
+pub const BAD_TERMS: [f32; 9] = [
+    f32::NAN, f32::from_bits(0x7f80_0001), f32::from_bits(0xffc1_2345), f32::INFINITY, f32::NEG_INFINITY, 1_000_000.06, -1_000_000.06, 1_000_001.0, f32::MAX,
+];
+
+pub fn jobs() -> Vec<Job> {
+    let job = |source, inputs, kinds, numbers, cost, one| Job { entry: "header read", source, inputs, kinds, numbers, cost, one };
+    vec![
+        job("damaged", 40_000, &OUTCOMES[..1], &[1, 4, 6], 0.7, damaged),
+        job("random", 3_500, OUTCOMES, &[], 42.0, random),
+        job("by channel", 5_000, OUTCOMES, &[], 25.0, by_channel),
+        job("by terms", 92_000, OUTCOMES, &[], 15.0, by_terms),
+    ]
+}
