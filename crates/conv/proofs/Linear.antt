@@ -116,11 +116,11 @@ unfolding labelOf computed
 label-computed r =
     omega (arith, parity-computed 0x4441 r (omega arith), parity-computed 0x7E57 r (omega arith), parity-computed 0x6095 r (omega arith), parity-computed 0x443B r (omega arith), parity-computed 0x69B7 r (omega arith))
 
-label-newest : labelOf 1 ≡ 31
+pub label-newest : labelOf 1 ≡ 31
 unfolding computed onesIn
 label-newest = label-computed 1
 
-label-oldest : labelOf 16384 ≡ 31
+pub label-oldest : labelOf 16384 ≡ 31
 unfolding computed onesIn
 label-oldest = label-computed 16384
 

@@ -12,7 +12,7 @@ use lib.Dec.{T, eqb, eqb→eq}
 use lib.Pow.{mod-mod-pow, mod-pow-add}
 use Rattle.conv.specs.Label.{labelOf}
 use Rattle.conv.specs.Encoder.{register, state, walkRegister, bit}
-use Rattle.conv.proofs.Linear.{label-xor, computed, label-computed}
+use Rattle.conv.proofs.Linear.{label-xor, computed, label-computed, label-newest, label-oldest}
 use Rattle.conv.proofs.Closed.{state-below}
 use Rattle.trellis.proofs.Paths.{bit-lt, bit-at}
 use Rattle.trellis.proofs.Every.{every, every-at}
@@ -168,14 +168,6 @@ doubled s t h e =
     ∙ ap₂ (λ (x y : ℕ). x % 2 ^ (t + 4) * 2 + y) half even ∙ omega arith
 
 -- labels 0 into state 0, and out of it
-label-newest : labelOf 1 ≡ 31
-unfolding computed onesIn
-label-newest = label-computed 1
-
-label-oldest : labelOf 16384 ≡ 31
-unfolding computed onesIn
-label-oldest = label-computed 16384
-
 back : (s b : ℕ) → s < 16384 → b < 2 → labelOf (register s b) ≡ 0 → register s b % 16384 ≡ 0 → s ≡ 0
 back s b hs hb e z = go (ℕ-discrete (register s b) 0)
   where
