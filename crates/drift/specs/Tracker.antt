@@ -108,25 +108,29 @@ abbrev pub followed : Tracker → Float → Float → Float → ℕ → Tracker
 followed t num den drift count =
     record { n = t .n + 1; shift = shiftAfter (t .shift) (drift ⊗ whole (t .n + 1)); tnum = num; tden = den; drift = drift; blocks = count }
 
+-- no block pushed
+abbrev pub unpushed : Tracker → Moved
+unpushed t = record { tracker = t; pushed = false; block = nowhere }
+
 -- where the block ends: pushed if something was heard, and both sums start again
 abbrev pub ended : Tracker → Float → Block → (Block → Float) → Moved
 ended t den b fitted =
     choose (lt plusZero den)
     (record { tracker = followed t plusZero plusZero (fitted b) (t .blocks + 1); pushed = true; block = b })
-    (record { tracker = followed t plusZero plusZero (t .drift) (t .blocks); pushed = false; block = nowhere })
+    (unpushed (followed t plusZero plusZero (t .drift) (t .blocks)))
 
 -- call c = n + 1 from 3 on judges symbol c - 3, with the sums that hold then. `fitted b` is the drift with block b pushed.
 unfoldable pub judgedOf : ℕ → Tracker → List ℤ → Float → Float → (Block → Float) → Moved
 judgedOf mode t stored num den fitted =
     choose (eqb (waiting mode (t .n) + 1) (blockLength mode))
     (ended t den (blockOf mode stored (t .n - 2) num den) fitted)
-    (record { tracker = followed t num den (t .drift) (t .blocks); pushed = false; block = nowhere })
+    (unpushed (followed t num den (t .drift) (t .blocks)))
 
 -- for c < 3 no more happens than that the call is counted
 unfoldable pub moved : ℕ → Tracker → List ℤ → Sample → (Block → Float) → Moved
 moved mode t stored s fitted =
     choose (ltb (t .n + 1) 3)
-    (record { tracker = record { n = t .n + 1; shift = t .shift; tnum = t .tnum; tden = t .tden; drift = t .drift; blocks = t .blocks }; pushed = false; block = nowhere })
+    (unpushed (record { n = t .n + 1; shift = t .shift; tnum = t .tnum; tden = t .tden; drift = t .drift; blocks = t .blocks }))
     (judgedOf mode t stored (numAfter t s) (denAfter t s) fitted)
 
 -- the call stores the present shift first

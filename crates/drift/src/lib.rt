@@ -12,7 +12,7 @@ ghost use Rattle.ieee.specs.Within.{larger, clamp};
 ghost use Rattle.drift.specs.Doubles.{sum, whole, within, every};
 ghost use Rattle.drift.specs.Fit.{productsOf, squaresOf, closingOf, fitAbout, fitOf, fitCauses, fitAnswer};
 ghost use Rattle.drift.specs.Fit as TheFit;
-ghost use Rattle.drift.specs.Tracker.{freshOf, blockLength, waiting, settled, countKept, driftKept, sumsKept, shiftKept, numAfter, denAfter, blockOf, shiftAfter, followed, ended, judgedOf, moved, ruleWith, energy, inRange, meaning, trackAnswer, trackerAfter, shiftsAfter, blocksAfter};
+ghost use Rattle.drift.specs.Tracker.{freshOf, blockLength, waiting, settled, countKept, driftKept, sumsKept, shiftKept, numAfter, denAfter, blockOf, shiftAfter, followed, unpushed, ended, judgedOf, moved, ruleWith, energy, inRange, meaning, trackAnswer, trackerAfter, shiftsAfter, blocksAfter};
 ghost use Rattle.drift.specs.Inside.{nothing, pushOf, Gathers, fittedIn, answerIn, Readable, Ready, Steps};
 ghost use Rattle.util.specs.Choose.{choose};
 ghost use Rattle.util.specs.Refusal.{outcome};
@@ -528,6 +528,20 @@ fn fit_with(mode: u8, g: Gathered, k: usize, b: Block) -> f64
     fit_lists(frame::symbol(mode), k + 1, &places, &timings)
 }
 
+// Inside: a call that pushes no block.
+fn unpushed(tracker: Tracker) -> Moved
+    ensures { λ r. ⌜ r ≡ unpushed tracker ⌝ }
+{
+    Moved {
+        tracker,
+        pushed: false,
+        block: Block {
+            place2: 0,
+            timing: 0.0,
+        },
+    }
+}
+
 // Inside: a block ends. It is pushed if something was heard in it.
 fn end_block(mode: u8, t: Tracker, g: Gathered, den: f64, b: Block) -> Moved
     requires { ⌜ (t .n < 2048) × (natAbs (t .shift) ≤ 2048) × (t .blocks < 64) ⌝ }
@@ -542,15 +556,7 @@ fn end_block(mode: u8, t: Tracker, g: Gathered, den: f64, b: Block) -> Moved
             block: b,
         }
     } else {
-        let next = follow(t, 0.0, 0.0, t.drift, t.blocks);
-        Moved {
-            tracker: next,
-            pushed: false,
-            block: Block {
-                place2: 0,
-                timing: 0.0,
-            },
-        }
+        unpushed(follow(t, 0.0, 0.0, t.drift, t.blocks))
     }
 }
 
@@ -563,15 +569,7 @@ fn judge(mode: u8, t: Tracker, stored: &[i32], g: Gathered, num: f64, den: f64) 
         let b = block_of(mode, stored, t.n - 2, num, den);
         end_block(mode, t, g, den, b)
     } else {
-        let next = follow(t, num, den, t.drift, t.blocks);
-        Moved {
-            tracker: next,
-            pushed: false,
-            block: Block {
-                place2: 0,
-                timing: 0.0,
-            },
-        }
+        unpushed(follow(t, num, den, t.drift, t.blocks))
     }
 }
 
@@ -590,14 +588,7 @@ fn move_on(mode: u8, t: Tracker, stored: &[i32], g: Gathered, s: Sample) -> Move
             drift: t.drift,
             blocks: t.blocks,
         };
-        return Moved {
-            tracker: next,
-            pushed: false,
-            block: Block {
-                place2: 0,
-                timing: 0.0,
-            },
-        };
+        return unpushed(next);
     }
     let sums = sums_after(t, s);
     judge(mode, t, stored, g, sums.num, sums.den)

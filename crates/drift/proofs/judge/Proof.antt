@@ -36,6 +36,9 @@ end-block-requires c κs = search needs
 follow-requires : tie.Need-follow-requires
 follow-requires c κs = search needs
 
+unpushed-requires : tie.Need-unpushed-requires
+unpushed-requires c κs = search needs
+
 returns : tie.Need-returns
 unfolding judgedOf
 returns c =
@@ -47,10 +50,10 @@ returns c =
 returns-2 : tie.Need-returns-2
 unfolding judgedOf ofBits
 returns-2 c =
-    let at = c .before in
+    let at = c .before .before in
     let a = at .before .before .before in
     let goes = ne-eqb (waiting (a .args .mode) (a .args .t .n) + 1) (blockLength (a .args .mode)) (λ e. at .if1 .left (omega (arith, e, at .before .block-length .ensures, at .before .before .waits .ensures))) in
-    simp (goes, c .follow .ensures)
+    simp (goes, c .before .follow .ensures, c .unpushed .ensures)
 
 pub judge-spec : {M : Type 1} → statement M
-judge-spec = tie.close (tie.spec waits-requires add-if1 block-length-requires sub-block-of block-of-requires end-block-requires follow-requires returns returns-2)
+judge-spec = tie.close (tie.spec waits-requires add-if1 block-length-requires sub-block-of block-of-requires end-block-requires follow-requires unpushed-requires returns returns-2)
