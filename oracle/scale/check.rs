@@ -37,6 +37,8 @@ pub const KINDS: usize = 8;
 pub struct Check {
     /// Before the comparison of this number one bit on our side is turned, in its place in memory.
     pub plant: Option<usize>,
+    /// That it was.
+    pub turned: bool,
     /// Comparisons so far; one of a list that is empty is none.
     pub made: usize,
     /// Single numbers behind them.
@@ -53,6 +55,7 @@ impl Check {
         if self.plant == Some(self.made) {
             let at = (self.made * 7919 + ours.len() / 2) % ours.len();
             ours[at] = ours[at].flipped(self.made as u32 * 5);
+            self.turned = true;
         }
         self.made += 1;
         self.numbers += ours.len() as u64;
@@ -84,6 +87,13 @@ impl Check {
         self.turn(ours);
         if let Some(i) = ours.iter().position(|x| x.bits() != value.bits()) {
             self.bad.get_or_insert_with(|| format!("{what}, place {i} of {}: ours {:?} ({:#x}), not {value:?}", ours.len(), ours[i], ours[i].bits()));
+        }
+    }
+    /// Says of a difference what the input was.
+    pub fn input(&mut self, say: impl FnOnce() -> String) {
+        if let Some(why) = &mut self.bad {
+            why.push_str("; input: ");
+            why.push_str(&say());
         }
     }
     pub fn answered(&mut self, kind: usize) {

@@ -53,6 +53,7 @@ pub fn read(o: &Oracle, c: &mut Check, d: &mut Dice, mode: u8, kind: u8, mut ter
         c.answered(match outcome { 0 => pass as usize - 1, k => 2 + k as usize });
     }
     c.list("the terms", &mut terms, &before);
+    c.input(|| format!("mode {mode} kind {kind}, {} terms, areas of {lengths:?}, first terms {:?}", before.len(), &before[..before.len().min(6)]));
 }
 
 /// Mode and kind: seven of eight headers have 48 symbols, which cost less.

@@ -18,7 +18,7 @@ pub struct Job {
     pub entry: &'static str,
     pub source: &'static str,
     pub inputs: u64,
-    /// The names of the kinds of answers, in the order of `Check::answers`; each must be met in a whole run.
+    /// The names of the kinds of answers, in the order of `Check::answers`; each must be met by one of the entry's jobs in a whole run.
     pub kinds: &'static [&'static str],
     /// The refusals that must be met in a whole run, and the only ones that may.
     pub numbers: &'static [u32],
@@ -53,6 +53,8 @@ pub struct Tally {
     pub answers: [u64; KINDS],
     pub refused: [u64; 11],
     pub numbers: u64,
+    /// Bits turned on our side.
+    pub turned: u64,
     /// Inputs with a difference, and the one of the lowest index.
     pub differ: u64,
     pub first: Option<(u64, String)>,
@@ -64,6 +66,7 @@ impl Tally {
         (0..KINDS).for_each(|k| self.answers[k] += c.answers[k]);
         (0..11).for_each(|k| self.refused[k] += c.refused[k]);
         self.numbers += c.numbers;
+        self.turned += c.turned as u64;
         if let Some(why) = c.bad {
             self.differ += 1;
             if self.first.as_ref().is_none_or(|f| index < f.0) {
@@ -76,6 +79,7 @@ impl Tally {
         (0..KINDS).for_each(|k| self.answers[k] += o.answers[k]);
         (0..11).for_each(|k| self.refused[k] += o.refused[k]);
         self.numbers += o.numbers;
+        self.turned += o.turned;
         self.differ += o.differ;
         if let Some(f) = o.first {
             if self.first.as_ref().is_none_or(|g| f.0 < g.0) {

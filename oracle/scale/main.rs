@@ -66,16 +66,15 @@ fn asked() -> Asked {
 /// One input alone, told.
 fn alone(o: &Oracle, job: &Job, seed: u64, index: u64, plant: Option<usize>) -> i32 {
     let c = job.input(o, seed, index, plant);
-    let mut t = Tally { answers: c.answers, refused: c.refused, ..Tally::default() };
-    t.inputs = 1;
+    let t = Tally { inputs: 1, answers: c.answers, refused: c.refused, ..Tally::default() };
     println!("{} index {index} seed {seed}: answered {}; refused {}; {} comparisons of {} numbers", job.name(), table::kinds(job.kinds, &t), table::numbers(&t), c.made, c.numbers);
-    match c.bad {
-        Some(why) => {
-            println!("  DIFFERS at {why}");
-            1
-        }
-        None => 0,
+    if plant.is_some() && !c.turned {
+        println!("  no bit was turned: it has no comparison of that number");
     }
+    if let Some(why) = &c.bad {
+        println!("  DIFFERS at {why}");
+    }
+    (c.bad.is_some() || plant.is_some()) as i32
 }
 
 /// That every comparison can fail: some inputs of a job, each again with one bit turned on our side before one comparison, which must
@@ -85,8 +84,9 @@ fn planted(o: &Oracle, job: &Job, seed: u64) -> (u64, u64) {
     for index in 0..((60.0 / job.cost) as u64).clamp(1, 10).min(job.inputs) {
         let made = job.input(o, seed, index, None).made;
         for p in (0..made).step_by(made.div_ceil(40).max(1)) {
+            let c = job.input(o, seed, index, Some(p));
             all += 1;
-            found += job.input(o, seed, index, Some(p)).bad.is_some() as u64;
+            found += (c.turned && c.bad.is_some()) as u64;
         }
     }
     (all, found)
@@ -129,6 +129,7 @@ fn main() {
     let done: Vec<(&Job, Tally)> = jobs.iter().map(|j| (j, run(&o, j, a.seed, a.threads, plant_in(j), &mut progress))).collect();
     progress.end();
     table::print(&done);
+    println!("(a tracker's inputs are series or states, its answers and refusals are calls)");
     // the counts are what they should be
     for (job, t) in &done {
         if t.inputs != job.inputs {
@@ -145,13 +146,17 @@ fn main() {
             if let Some(k) = job.numbers.iter().find(|&&k| t.refused[k as usize] == 0) {
                 wrong.push(format!("{}: refusal {k} was never met", job.name()));
             }
-            if let Some(k) = (0..job.kinds.len()).find(|&k| t.answers[k] == 0) {
-                wrong.push(format!("{}: '{}' was never met", job.name(), job.kinds[k]));
+            let met = |k: usize| done.iter().any(|(j, t)| j.entry == job.entry && t.answers[k] > 0);
+            if let Some(k) = (0..job.kinds.len()).find(|&k| a.only.is_none() && !met(k)) {
+                wrong.push(format!("{}: '{}' was never met", job.entry, job.kinds[k]));
             }
         }
         if let Some((index, why)) = &t.first {
             wrong.push(format!("{}: {} of {} inputs differ, first index {index}: {why}\n    alone: oracle/scale.sh {} --only '{}' --at {index}", job.name(), t.differ, t.inputs, a.seed, job.name()));
         }
+    }
+    if a.plant.is_some() && done.iter().all(|(_, t)| t.turned == 0) {
+        wrong.push("no bit was turned: there is no such input, or no comparison of that number in it".into());
     }
     let sum = |f: fn(&Tally) -> u64| done.iter().map(|(_, t)| f(t)).sum::<u64>();
     println!(

@@ -23,6 +23,7 @@ fn multiplier(c: &mut Check, n: u64) {
         c.one("multiplier's place", &mut mult, BEFORE);
         c.refused(want);
     }
+    c.input(|| format!("n = {n}"));
 }
 
 fn multiplier_any(_: &Oracle, d: &mut Dice, _: u64, c: &mut Check) {
@@ -57,6 +58,7 @@ fn crc(c: &mut Check, mode: u8, kind: u8, bits: &mut [u8]) {
         c.refused(want);
     }
     c.list("the bits", bits, &before);
+    c.input(|| format!("mode {mode} kind {kind} bits {before:?}"));
 }
 
 fn random_bits(d: &mut Dice, n: usize) -> Vec<u8> {
@@ -128,6 +130,7 @@ fn sent(c: &mut Check, o: &Oracle, mode: u8, kind: u8, bits: &mut [u8], room: us
         c.refused(want);
     }
     c.list("the bits", bits, &before);
+    c.input(|| format!("mode {mode} kind {kind} bits {before:?} values {room}"));
 }
 
 fn sent_random(o: &Oracle, d: &mut Dice, i: u64, c: &mut Check) {

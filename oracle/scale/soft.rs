@@ -52,6 +52,8 @@ pub fn values(c: &mut Check, mut ours: Soft) {
     }
     c.list("the terms", &mut ours.terms, &before.terms);
     c.list("the counts", &mut ours.blanked, &before.blanked);
+    let Soft { mode, kind, symbols, window, bits, terms, blanked, .. } = &before;
+    c.input(|| format!("mode {mode} kind {kind} symbols {symbols} window {window} bits {bits}, {} terms {:?}.., counts {:?}..", terms.len(), &terms[..terms.len().min(6)], &blanked[..blanked.len().min(6)]));
 }
 
 /// Mostly bursts of up to 1,000 bits, one in sixteen of any length, and the ends.

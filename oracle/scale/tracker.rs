@@ -40,6 +40,7 @@ fn fit(c: &mut Check, mode: u8, mut places: Vec<u32>, mut timings: Vec<f64>) {
     }
     c.list("the places", &mut places, &before.0);
     c.list("the timings", &mut timings, &before.1);
+    c.input(|| format!("mode {mode} places {:?} timings {:?}", before.0, before.1));
 }
 
 /// Blocks near a line, of one size or another, or anywhere.
@@ -150,6 +151,14 @@ fn refused(c: &mut Check, t: &mut Tracker, mode: u8, x: Call, want: u32) {
     c.list("places", &mut t.places, &before.places);
     c.list("timings", &mut t.timings, &before.timings);
     c.refused(want);
+    c.input(|| format!("mode {mode} {x:?} at {}", say(&before)));
+}
+
+fn say(t: &Tracker) -> String {
+    format!(
+        "n {} shift {} tnum {:e} tden {:e} drift {:e} blocks {}, lists of {}, {} and {}",
+        t.n, t.shift, t.tnum, t.tden, t.drift, t.blocks, t.shifts.len(), t.places.len(), t.timings.len()
+    )
 }
 
 fn fields(c: &mut Check, t: &mut Tracker, n: usize, shift: i32, sums: [f64; 3], blocks: usize) {
@@ -201,9 +210,8 @@ fn series(c: &mut Check, d: &mut Dice, shapes: &[u64], calls: usize, spoilt: u64
         if t.shift.abs() > [137, 69][m] {
             c.bad.get_or_insert_with(|| format!("|shift| {} in mode {m}", t.shift));
         }
-        if let Some(why) = &mut c.bad {
-            why.push_str(&format!("; mode {m} shape {shape} call {k} {x:?}"));
-            return;
+        if c.bad.is_some() {
+            return c.input(|| format!("mode {m} shape {shape} call {k} {x:?}"));
         }
     }
     if calls == CALLS {
@@ -265,14 +273,17 @@ fn state(d: &mut Dice, m: usize) -> Tracker {
     t
 }
 
+/// The Rust's tracker in a state that keeps the rule.
+fn as_rust(m: usize, t: &Tracker) -> Rust {
+    let blocks: Vec<(f64, f64)> = (0..t.blocks).map(|i| (t.places[i] as f64 / 2.0, t.timings[i])).collect();
+    Rust::at(MODES[m], t.shift, (t.tnum, t.tden, t.drift), (t.n.max(2) - 2) % LENGTH[m], &t.shifts[..t.n], &blocks)
+}
+
 /// From any state: up to 70 calls, so that a block's end is met, or until the rule refuses.
 fn any_state(_: &Oracle, d: &mut Dice, _: u64, c: &mut Check) {
     let m = d.below(2) as usize;
     let mut t = state(d, m);
-    let before = t.clone();
-    let waiting = (t.n.max(2) - 2) % LENGTH[m];
-    let blocks: Vec<(f64, f64)> = (0..t.blocks).map(|i| (t.places[i] as f64 / 2.0, t.timings[i])).collect();
-    let mut rust = Rust::at(MODES[m], t.shift, (t.tnum, t.tden, t.drift), waiting, &t.shifts[..t.n], &blocks);
+    let (before, mut rust) = (t.clone(), as_rust(m, &t));
     let shape = d.below(8);
     for k in 1..=1 + d.below(70) as usize {
         let heard = sample(d, shape, 100.0, SYMBOL[m], k, 0);
@@ -282,8 +293,8 @@ fn any_state(_: &Oracle, d: &mut Dice, _: u64, c: &mut Check) {
             return refused(c, &mut t, m as u8, x, want);
         }
         call(c, &mut t, &mut rust, m, x, &before);
-        if let Some(why) = &mut c.bad {
-            return why.push_str(&format!("; mode {m} shape {shape} call {k} {x:?} from n {} shift {} tnum {:e} tden {:e} drift {:e} blocks {}", before.n, before.shift, before.tnum, before.tden, before.drift, before.blocks));
+        if c.bad.is_some() {
+            return c.input(|| format!("mode {m} call {k} {x:?} from {}", say(&before)));
         }
     }
 }
@@ -338,11 +349,9 @@ fn damaged(_: &Oracle, d: &mut Dice, _: u64, c: &mut Check) {
     if want != 0 {
         return refused(c, &mut t, mode, x, want);
     }
-    let before = t.clone();
-    let blocks: Vec<(f64, f64)> = (0..t.blocks).map(|i| (t.places[i] as f64 / 2.0, t.timings[i])).collect();
-    let waiting = (t.n.max(2) - 2) % LENGTH[m];
-    let mut rust = Rust::at(MODES[m], t.shift, (t.tnum, t.tden, t.drift), waiting, &t.shifts[..t.n], &blocks);
-    call(c, &mut t, &mut rust, m, x, &before)
+    let (before, mut rust) = (t.clone(), as_rust(m, &t));
+    call(c, &mut t, &mut rust, m, x, &before);
+    c.input(|| format!("mode {m} {x:?} at {}", say(&before)));
 }
 
 pub fn jobs() -> Vec<Job> {
