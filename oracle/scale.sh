@@ -6,10 +6,11 @@
 #   --threads N      as many as there are cores unless given
 #   --share PERCENT  that part of each job's inputs (what must be met in a whole run is then not asked for)
 #   --only JOB       one job, such as 'header read/random'; with --at INDEX its one input, told
-#   --plant JOB:INDEX[:COMPARISON]   turns one bit on our side in memory before that comparison of that input: the run must end with 1
+#   --plant JOB:INDEX[:COMPARISON]   turns one bit on our side in memory before that comparison of that input (the first is 0): it must
+#                    be found, and the run end with 1. Every run plants some in each job beforehand, and must find them all
 #   --replay FOLDER  instead: every burst file of the folder (docs/BURST-FORMAT.md), header read and soft values by both sides;
 #                    --plant x:FILE:COMPARISON turns a bit there, files counted from 0, comparisons of the soft values from 100
 set -eu
-cd "$(dirname "$0")/.."
-oracle/build.sh scale oracle/scale/main.rs
-exec target/oracle/scale "$@"
+root=$(cd "$(dirname "$0")/.." && pwd -P)
+"$root/oracle/build.sh" scale oracle/scale/main.rs
+exec "$root/target/oracle/scale" "$@"

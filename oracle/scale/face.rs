@@ -13,7 +13,6 @@ unsafe extern "C" {
         work: *mut f32, work_len: usize, metrics: *mut f32, metrics_len: usize, soft: *mut f32, soft_len: usize,
     ) -> u32;
     fn ion_fit_drift(mode: u8, places: *const u32, places_len: usize, timings: *const f64, timings_len: usize, drift: *mut f64) -> u32;
-    #[cfg(not(tracker_by_probe))]
     fn ion_track_timing(
         mode: u8, n: *mut usize, shift: *mut i32, tnum: *mut f64, tden: *mut f64, drift: *mut f64, blocks: *mut usize, shifts: *mut i32, shifts_len: usize,
         places: *mut u32, places_len: usize, timings: *mut f64, timings_len: usize, heard: u8, early: f64, late: f64, noise: f64,
@@ -110,34 +109,5 @@ impl Tracker {
                 self.shifts.len(), self.places.as_mut_ptr(), self.places.len(), self.timings.as_mut_ptr(), self.timings.len(), heard, early, late, noise,
             )
         }
-    }
-}
-
-// Until libion.a has the tracker it is reached through the probe library, whose function takes the counts and the sums in lists, has no
-// answer for two lengths, and knows Heard as 1 alone.
-#[cfg(tracker_by_probe)]
-#[allow(clippy::too_many_arguments)]
-unsafe fn ion_track_timing(
-    mode: u8, n: *mut usize, shift: *mut i32, tnum: *mut f64, tden: *mut f64, drift: *mut f64, blocks: *mut usize, shifts: *mut i32, shifts_len: usize,
-    places: *mut u32, places_len: usize, timings: *mut f64, timings_len: usize, heard: u8, early: f64, late: f64, noise: f64,
-) -> u32 {
-    unsafe extern "C" {
-        fn probe_track(
-            mode: u8, counts: *mut u64, two: usize, shift: *mut i32, one: usize, sums: *mut f64, three: usize, shifts: *mut i32, stored: usize,
-            places: *mut u32, n: usize, timings: *mut f64, m: usize, heard: u8, early: f64, late: f64, noise: f64,
-        ) -> u64;
-    }
-    if places_len != timings_len {
-        return if mode > 1 { 1 } else { 4 };
-    }
-    unsafe {
-        let (mut counts, mut sums) = ([*n as u64, *blocks as u64], [*tnum, *tden, *drift]);
-        let k = probe_track(
-            mode, counts.as_mut_ptr(), 2, shift, 1, sums.as_mut_ptr(), 3, shifts, shifts_len, places, places_len, timings, timings_len, (heard != 0) as u8, early,
-            late, noise,
-        );
-        (*n, *blocks) = (counts[0] as usize, counts[1] as usize);
-        (*tnum, *tden, *drift) = (sums[0], sums[1], sums[2]);
-        k as u32
     }
 }
