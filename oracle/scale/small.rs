@@ -4,7 +4,7 @@ use crate::face;
 use crate::inputs::{Dice, bits_of};
 use crate::jobs::{Job, Oracle};
 use crate::made::{KINDS, MODES};
-use ion::phy_mfsk::hook::air;
+use ion::phy_mfsk::hook::{Fmt, air};
 
 /// What a place holds before a call: no answer.
 const BEFORE: u64 = 0xA5A5_A5A5_A5A5_A5A5;
@@ -122,7 +122,7 @@ fn sent(c: &mut Check, o: &Oracle, mode: u8, kind: u8, bits: &mut [u8], room: us
         let theirs: Vec<u8> = air::header_values(m, k, &before).iter().map(|v| v[0] as u8).collect();
         c.list("values", &mut values, &theirs);
         let steps = o.code.encode_tb(&before);
-        let mut ours: Vec<u16> = (0..n).map(|j| values[air::header_slot(ion::phy_mfsk::hook::Fmt::of(m), k, j)] as u16).collect();
+        let mut ours: Vec<u16> = (0..n).map(|j| values[air::header_slot(Fmt::of(m), k, j)] as u16).collect();
         c.list("values by step", &mut ours, &steps);
         c.answered(0);
     } else {

@@ -97,18 +97,18 @@ fn damaged(_: &Oracle, d: &mut Dice, i: u64, c: &mut Check) {
     fill_terms(&mut b.terms, x, || d.word());
     fill_counts(&mut b.blanked, window, y, || d.word());
     for _ in 0..d.below(4) {
-        let step = |d: &mut Dice, n: usize| d.of(&[n.wrapping_sub(1), n + 1, 0, n / 2, n + 32, n + 260]) & 0xFFFF_FFFF;
+        let other = |d: &mut Dice, n: usize| d.of(&[n.saturating_sub(1), n + 1, 0, n / 2, n + 32, n + 260]);
         match d.below(15) {
             0 => b.mode = bad_name(d, 2),
             1 => b.kind = bad_name(d, 3),
             2 => b.bits = d.of(&[10_241, 10_245, u32::MAX, u32::MAX - 4, 1 << 31, 10_240]),
             3 => b.window = d.of(&[0, 79, 81, 97, 111, 113, 159, 161, 193, 223, 225, u32::MAX]),
             4 => b.window = d.of(&WINDOWS[1 - mode as usize]),
-            5 => b.terms.resize(step(d, b.terms.len()).min(1 << 20), 0.5),
-            6 => b.blanked.resize(step(d, b.blanked.len()).min(1 << 20), 3),
-            7 => b.work.resize(step(d, b.work.len()).min(1 << 20), 1.0),
-            8 => b.metrics.resize(step(d, b.metrics.len()).min(1 << 20), 1.0),
-            9 => b.soft.resize(step(d, b.soft.len()).min(1 << 20), 1.0),
+            5 => b.terms.resize(other(d, b.terms.len()), 0.5),
+            6 => b.blanked.resize(other(d, b.blanked.len()), 3),
+            7 => b.work.resize(other(d, b.work.len()), 1.0),
+            8 => b.metrics.resize(other(d, b.metrics.len()), 1.0),
+            9 => b.soft.resize(other(d, b.soft.len()), 1.0),
             10 => b.bits = b.bits.wrapping_add(d.of(&[1, 5, u32::MAX])),
             11 | 12 if !b.terms.is_empty() => {
                 let at = match d.below(3) { 0 => 0, 1 => b.terms.len() - 1, _ => d.below(b.terms.len() as u64) as usize };
