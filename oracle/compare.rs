@@ -2,6 +2,7 @@
 // A section that differs prints its smallest input, and the run ends with status 1. The argument is how many headers of each style are read.
 use ion::phy_mfsk::hook::{Fmt, Kind, MfskMode, air, windows};
 mod drift;
+mod face;
 mod inputs;
 mod read;
 mod sent;
@@ -18,8 +19,6 @@ unsafe extern "C" {
     fn probe_bins(mode: u8) -> u64;
     fn probe_symbol(mode: u8) -> u64;
     fn probe_has_window(mode: u8, window: u32) -> u64;
-    fn probe_mult(n: u64) -> u64;
-    fn probe_crc(mode: u8, kind: u8, bits: *const u8, length: usize) -> u64;
 }
 
 const MODES: [MfskMode; 2] = [MfskMode::R0, MfskMode::R1];
@@ -54,19 +53,32 @@ impl Section {
     }
 }
 
+/// An answer's number: 0, or 2^32 and the refusal's.
+fn told(k: u32) -> u64 {
+    if k == 0 { 0 } else { REFUSED + k as u64 }
+}
+
+fn mult(n: u64) -> u64 {
+    let mut a = 0;
+    let k = face::interleave_mult(n, &mut a);
+    told(k) + a
+}
+
 fn crc(mode: u8, kind: u8, bits: &[u8]) -> u64 {
-    unsafe { probe_crc(mode, kind, bits.as_ptr(), bits.len()) }
+    let mut value = 0;
+    let k = face::crc(mode, kind, bits, &mut value);
+    told(k) + value as u64
 }
 
 fn multipliers(wrong: &mut bool) {
     let mut s = Section::new("multiplier, every n to 10,240");
     for n in 0..=10_240 {
-        s.pair(unsafe { probe_mult(n) }, air::interleave_mult(n as usize) as u64, || format!("n = {n}"));
+        s.pair(mult(n), air::interleave_mult(n as usize) as u64, || format!("n = {n}"));
     }
     s.end(wrong);
     let mut s = Section::new("multiplier, refusal 2 above");
     for n in (10_241..=20_000).chain([1 << 32, u64::MAX]) {
-        s.pair(unsafe { probe_mult(n) }, REFUSED + 2, || format!("n = {n}"));
+        s.pair(mult(n), REFUSED + 2, || format!("n = {n}"));
     }
     s.end(wrong);
 }

@@ -1,16 +1,9 @@
 // The fit and the tracker against the Rust's `fit_drift` and `track_timing`, bit for bit after every call, and their refusals
 // against document 01's table. Built with `--cfg unchanged_sums` the Rust's float sums start at -0.0, and only a zero's sign may differ.
 use super::inputs::{Dice, Heard, sample};
-use super::{MODES, REFUSED, Section};
+use super::face::{self, Tracker as Ours};
+use super::{MODES, REFUSED, Section, told};
 use ion::phy_mfsk::hook::{Fmt, Tracker, fit_drift};
-
-unsafe extern "C" {
-    fn probe_fit(mode: u8, places: *const u32, n: usize, timings: *const f64, m: usize, drift: *mut f64, one: usize) -> u64;
-    fn probe_track(
-        mode: u8, counts: *mut u64, two: usize, shift: *mut i32, one: usize, sums: *mut f64, three: usize, shifts: *mut i32, stored: usize,
-        places: *mut u32, n: usize, timings: *mut f64, m: usize, heard: u8, early: f64, late: f64, noise: f64,
-    ) -> u64;
-}
 
 const CALLS: usize = 2048;
 /// What a drift's place holds before the call.
@@ -26,9 +19,9 @@ fn same(s: &mut Section, zeros: &mut u64, ours: f64, theirs: f64, input: impl Fn
 }
 
 fn fit(mode: u8, places: &[u32], timings: &[f64]) -> (u64, u64) {
-    let mut drift = [f64::from_bits(UNTOUCHED)];
-    let k = unsafe { probe_fit(mode, places.as_ptr(), places.len(), timings.as_ptr(), timings.len(), drift.as_mut_ptr(), 1) };
-    (k, drift[0].to_bits())
+    let mut drift = f64::from_bits(UNTOUCHED);
+    let k = face::fit_drift(mode, places, timings, &mut drift);
+    (told(k), drift.to_bits())
 }
 
 fn fits(wrong: &mut bool) {
@@ -96,36 +89,20 @@ fn fit_refusals(wrong: &mut bool) {
     s.end(wrong);
 }
 
-#[derive(Clone)]
-struct Ours {
-    counts: [u64; 2],
-    shift: [i32; 1],
-    sums: [f64; 3],
-    shifts: Vec<i32>,
-    places: Vec<u32>,
-    timings: Vec<f64>,
-}
 /// What the lists hold where nothing is stored: out of every range.
 const NO_SHIFT: i32 = 0x5A5A_5A5A;
 const NO_PLACE: u32 = 0xA5A5_A5A5;
 
 impl Ours {
     fn fresh() -> Self {
-        Ours { counts: [0; 2], shift: [0], sums: [0.0; 3], shifts: vec![NO_SHIFT; CALLS], places: vec![NO_PLACE; 64], timings: vec![f64::from_bits(UNTOUCHED); 64] }
+        Ours { n: 0, shift: 0, tnum: 0.0, tden: 0.0, drift: 0.0, blocks: 0, shifts: vec![NO_SHIFT; CALLS], places: vec![NO_PLACE; 64], timings: vec![f64::from_bits(UNTOUCHED); 64] }
     }
     fn call(&mut self, mode: u8, heard: Heard) -> u64 {
         let (early, late, noise) = heard.unwrap_or((f64::NAN, -1.0, 2e9));
-        unsafe {
-            probe_track(
-                mode, self.counts.as_mut_ptr(), 2, self.shift.as_mut_ptr(), 1, self.sums.as_mut_ptr(), 3, self.shifts.as_mut_ptr(), self.shifts.len(),
-                self.places.as_mut_ptr(), self.places.len(), self.timings.as_mut_ptr(), self.timings.len(), heard.is_some() as u8, early, late, noise,
-            )
-        }
+        told(self.track(mode, heard.is_some() as u8, early, late, noise))
     }
     fn bits(&self) -> (Vec<u64>, Vec<i32>, Vec<u32>, Vec<u64>) {
-        let mut head = self.counts.to_vec();
-        head.push(self.shift[0] as u64);
-        head.extend(self.sums.iter().map(|x| x.to_bits()));
+        let head = vec![self.n as u64, self.blocks as u64, self.shift as u64, self.tnum.to_bits(), self.tden.to_bits(), self.drift.to_bits()];
         (head, self.shifts.clone(), self.places.clone(), self.timings.iter().map(|x| x.to_bits()).collect())
     }
 }
@@ -133,15 +110,15 @@ impl Ours {
 /// After a call: each field, and both lists whole.
 fn agrees(s: &mut Section, zeros: &mut u64, o: &Ours, t: &Tracker, length: usize, input: &dyn Fn() -> String) {
     let (next, shift, tnum, tden, tcnt, drift) = t.state();
-    let (n, blocks) = (o.counts[0] as usize, t.blocks());
+    let (n, blocks) = (o.n, t.blocks());
     s.pair(n as u64, next as u64, input);
-    s.pair(o.shift[0] as u64, shift as u64, input);
+    s.pair(o.shift as u64, shift as u64, input);
     s.pair((n.max(2) - 2) as u64 % length as u64, tcnt as u64, input);
-    same(s, zeros, o.sums[0], tnum, input);
-    same(s, zeros, o.sums[1], tden, input);
-    same(s, zeros, o.sums[2], drift, input);
+    same(s, zeros, o.tnum, tnum, input);
+    same(s, zeros, o.tden, tden, input);
+    same(s, zeros, o.drift, drift, input);
     s.pair((o.shifts[..n] == *t.shifts() && o.shifts[n..].iter().all(|&z| z == NO_SHIFT)) as u64, 1, input);
-    s.pair(o.counts[1], blocks.len() as u64, input);
+    s.pair(o.blocks as u64, blocks.len() as u64, input);
     let stored = blocks.iter().enumerate().all(|(i, b)| o.places[i] as f64 / 2.0 == b.0 && o.timings[i].to_bits() == b.1.to_bits());
     let rest = o.places[blocks.len()..].iter().all(|&p| p == NO_PLACE) && o.timings[blocks.len()..].iter().all(|y| y.to_bits() == UNTOUCHED);
     s.pair((stored && rest) as u64, 1, input);
@@ -156,12 +133,12 @@ fn series(wrong: &mut bool) {
         let (shape, ppm) = (round / 2 % 8, (10.0 + 390.0 * r.unit()) * if r.below(2) == 0 { 1.0 } else { -1.0 });
         let (mut o, mut t) = (Ours::fresh(), Tracker::new(MODES[m]));
         for c in 1..=CALLS {
-            let x = sample(&mut r, shape, ppm, sym as f64, c, o.shift[0]);
+            let x = sample(&mut r, shape, ppm, sym as f64, c, o.shift);
             let input = || format!("round {round} mode {m} shape {shape} call {c} {x:?}");
             s.pair(o.call(m as u8, x), 0, input);
             t.symbol(x);
             agrees(&mut s, &mut zeros, &o, &t, length, &input);
-            far[m] = far[m].max(o.shift[0].abs());
+            far[m] = far[m].max(o.shift.abs());
         }
         s.pair(o.call(m as u8, None), REFUSED + 9, || format!("round {round}: call 2,049"));
     }
@@ -185,7 +162,7 @@ fn named(wrong: &mut bool) {
     for _ in 0..3 {
         s.pair(o.call(0, Some((1.0, 2.0, 0.5))), 0, || "three times Heard(1, 2, 0.5)".into());
     }
-    s.pair(o.sums[0].to_bits(), 1.0f64.to_bits(), || "tnum after call 3".into());
+    s.pair(o.tnum.to_bits(), 1.0f64.to_bits(), || "tnum after call 3".into());
     let mut o = Ours::fresh();
     for c in 1..=226 {
         s.pair(o.call(0, Some((100.0, 100.0 + 0.05 * c as f64, 1.0))), 0, || format!("rising late energy, call {c}"));
@@ -204,10 +181,10 @@ fn broken(wrong: &mut bool) {
         let mut o = Ours::fresh();
         let n = 3 + r.below(400) as usize;
         for c in 1..=n {
-            o.call(m as u8, sample(&mut r, 2, 100.0, sym as f64, c, o.shift[0]));
+            o.call(m as u8, sample(&mut r, 2, 100.0, sym as f64, c, o.shift));
         }
         let (judged, limit) = (n.max(2) - 2, 300e-6 * sym as f64);
-        let (whole, listed) = (judged - judged % length, o.counts[1] as usize);
+        let (whole, listed) = (judged - judged % length, o.blocks);
         let mut x = if r.below(2) == 0 { None } else { Some((1.0, 2.0, 3.0)) };
         let (mut mode, what) = (m as u8, r.below(27));
         let want = match what {
@@ -217,27 +194,27 @@ fn broken(wrong: &mut bool) {
             3 => { x = Some((f64::NAN, 0.0, 0.0)); 8 }
             4 => { x = Some((0.0, -5e-324, 0.0)); 8 }
             5 => { x = Some((0.0, 0.0, 1e9f64.next_up())); 8 }
-            6 => { o.counts[0] = 2048; o.counts[1] = 0; o.shifts.fill(0); 9 }
-            7 => { o.counts[0] = 2049 + r.below(1 << 60); 9 }
-            8 => { o.counts[1] = (whole / length) as u64 + 1 + r.below(1 << 60); 9 }
+            6 => { o.n = 2048; o.blocks = 0; o.shifts.fill(0); 9 }
+            7 => { o.n = 2049 + r.below(1 << 60) as usize; 9 }
+            8 => { o.blocks = whole / length + 1 + r.below(1 << 60) as usize; 9 }
             9 if listed > 0 => { o.places[listed - 1] = 2 * whole as u32 + 1; 9 }
-            10 => { o.sums[2] = limit.next_up(); 9 }
-            11 => { o.sums[2] = f64::from_bits(UNTOUCHED); 9 }
-            12 => { o.sums[0] = 1e12f64.next_up(); 9 }
-            13 => { o.sums[0] = f64::NAN; 9 }
-            14 => { o.sums[1] = 1e12f64.next_up(); 9 }
-            15 => { o.sums[1] = -5e-324; 9 }
-            16 => { o.sums[1] = -0.0; 9 }
-            17 => { o.sums[1] = f64::from_bits(UNTOUCHED); 9 }
-            18 => { o.shift[0] = if r.below(2) == 0 { 2049 } else { -2049 }; 9 }
+            10 => { o.drift = limit.next_up(); 9 }
+            11 => { o.drift = f64::from_bits(UNTOUCHED); 9 }
+            12 => { o.tnum = 1e12f64.next_up(); 9 }
+            13 => { o.tnum = f64::NAN; 9 }
+            14 => { o.tden = 1e12f64.next_up(); 9 }
+            15 => { o.tden = -5e-324; 9 }
+            16 => { o.tden = -0.0; 9 }
+            17 => { o.tden = f64::from_bits(UNTOUCHED); 9 }
+            18 => { o.shift = if r.below(2) == 0 { 2049 } else { -2049 }; 9 }
             19 => { let j = r.below(n as u64) as usize; o.shifts[j] = if r.below(2) == 0 { 2049 } else { i32::MIN }; 9 }
             20 if listed > 1 => { o.places[listed - 2] = o.places[listed - 1] + 1; if o.places[listed - 2] > 2 * whole as u32 { 9 } else { 10 } }
             21 if listed > 0 => { o.timings[r.below(listed as u64) as usize] = f64::from_bits(UNTOUCHED); 10 }
             22 if listed > 0 => { o.timings[r.below(listed as u64) as usize] = 4096.0f64.next_up(); 10 }
             // kept at its limits
-            23 => { o.sums[2] = -limit; 0 }
-            24 => { o.sums[0] = -1e12; o.sums[1] = 1e12; 0 }
-            25 => { o.shift[0] = -2048; 0 }
+            23 => { o.drift = -limit; 0 }
+            24 => { o.tnum = -1e12; o.tden = 1e12; 0 }
+            25 => { o.shift = -2048; 0 }
             26 => { let j = r.below(n as u64) as usize; o.shifts[j] = 2048; 0 }
             _ => 0,
         };

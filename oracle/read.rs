@@ -1,75 +1,45 @@
 // A header read: the entry against the Rust's `decode_tb` over the same terms, its refusals against document 01's table, and demand 3 by
 // counting every walk of small codes of the same shape.
 use super::inputs::{Dice, STYLES, rows, styled};
-use super::{KINDS, MODES, REFUSED, Section};
+use super::face::Header;
+use super::{KINDS, MODES, REFUSED, Section, told};
 use ion::fec::conv::ConvCode;
 use ion::phy_mfsk::hook::{Fmt, Kind, air, code, decode_terms, decode_terms_told};
 
-unsafe extern "C" {
-    fn probe_read_header(
-        mode: u8, kind: u8, terms: *const f32, terms_len: usize, ends: *mut f32, ends_len: usize, second: *mut f32, second_len: usize,
-        start: *mut f32, start_len: usize, decisions: *mut u64, decisions_len: usize, answer: *mut u64, answer_len: usize, score: *mut f32, score_len: usize,
-    ) -> u64;
-}
-
-/// The lent areas. They start with a pattern of bits that is no zero: signalling NaNs in the scores.
-pub struct Areas {
-    pub scores: [Vec<f32>; 3],
-    pub decisions: Vec<u64>,
-}
-
 const PATTERN: u32 = 0x7F80_0001;
 
-impl Areas {
-    pub fn of(lengths: [usize; 4]) -> Self {
-        let scores = |n| vec![f32::from_bits(PATTERN); n];
-        Areas { scores: [scores(lengths[0]), scores(lengths[1]), scores(lengths[2])], decisions: vec![0xA5A5_A5A5_A5A5_A5A5; lengths[3]] }
-    }
-    pub fn new(n: usize) -> Self {
-        Areas::of([16_384, 16_384, 16_384, 256 * n])
-    }
-    /// How many places do not hold these bits.
-    fn other(&self, score: u32, decision: u64) -> u64 {
-        let scores: usize = self.scores.iter().map(|a| a.iter().filter(|x| x.to_bits() != score).count()).sum();
-        (scores + self.decisions.iter().filter(|&&d| d != decision).count()) as u64
-    }
+/// What is lent. The areas start with a pattern of bits that is no zero: signalling NaNs in the scores.
+fn lent(lengths: [usize; 4]) -> Header {
+    let scores = |n| vec![f32::from_bits(PATTERN); n];
+    let decisions = vec![0xA5A5_A5A5_A5A5_A5A5; lengths[3]];
+    Header { scores: [scores(lengths[0]), scores(lengths[1]), scores(lengths[2])], decisions, word: 0, outcome: 0, pass: 0, score: 0.0 }
 }
 
-pub struct Answer {
-    pub refused: u64,
-    pub word: u64,
-    pub outcome: u64,
-    pub pass: u64,
-    pub score: f32,
+/// How many places of the areas do not hold these bits.
+fn other(h: &Header, score: u32, decision: u64) -> u64 {
+    let scores: usize = h.scores.iter().map(|a| a.iter().filter(|x| x.to_bits() != score).count()).sum();
+    (scores + h.decisions.iter().filter(|&&d| d != decision).count()) as u64
 }
 
-pub fn read(mode: u8, kind: u8, terms: &[f32], a: &mut Areas) -> Answer {
-    let (mut answer, mut score) = ([0u64; 3], [0f32; 1]);
-    let [ends, second, start] = &mut a.scores;
-    let refused = unsafe {
-        probe_read_header(
-            mode, kind, terms.as_ptr(), terms.len(), ends.as_mut_ptr(), ends.len(), second.as_mut_ptr(), second.len(), start.as_mut_ptr(), start.len(),
-            a.decisions.as_mut_ptr(), a.decisions.len(), answer.as_mut_ptr(), 3, score.as_mut_ptr(), 1,
-        )
-    };
-    Answer { refused, word: answer[0], outcome: answer[1], pass: answer[2], score: score[0] }
+fn how(h: &Header) -> u64 {
+    16 * h.outcome as u64 + h.pass as u64
 }
 
 /// One header: five pairs (answered, word, score's bits, outcome and pass, areas as zeros).
 fn header(s: &mut Section, c: &ConvCode, m: usize, k: usize, terms: &[f32], met: &mut [u64; 8], input: &dyn Fn() -> String) {
     let n = air::header_info_bits(KINDS[k]);
-    let mut areas = Areas::new(n);
+    let mut ours = lent(Header::lengths(n));
     let before: Vec<u32> = terms.iter().map(|t| t.to_bits()).collect();
-    let ours = read(m as u8, k as u8, terms, &mut areas);
+    let refused = ours.read(m as u8, k as u8, terms);
     let (bits, score) = decode_terms(c, MODES[m], KINDS[k], &rows(terms));
     let (bits2, score2, (kind, pass, from)) = decode_terms_told(c, MODES[m], KINDS[k], &rows(terms));
     assert!(bits == bits2 && score.to_bits() == score2.to_bits(), "the copy of decode_tb's loop");
     let word = bits.iter().rev().fold(0u64, |w, &b| w << 1 | b as u64);
-    s.pair(ours.refused, 0, input);
+    s.pair(told(refused), 0, input);
     s.pair(ours.word, word, input);
     s.pair(ours.score.to_bits() as u64, score.to_bits() as u64, input);
-    s.pair(16 * ours.outcome + ours.pass, 16 * kind as u64 + pass as u64, input);
-    s.pair(areas.other(0, 0), 0, input);
+    s.pair(how(&ours), 16 * kind as u64 + pass as u64, input);
+    s.pair(other(&ours, 0, 0), 0, input);
     assert!(before.iter().zip(terms).all(|(b, t)| *b == t.to_bits()));
     met[match kind { 0 => pass as usize - 1, 1 => 2 + from as usize, _ => 6 }] += 1;
 }
@@ -114,10 +84,11 @@ fn named(wrong: &mut bool) {
                 t[260 * slot + 104 + fmt.tone_bin(fmt.hop(slot), 0, value.parse().unwrap()) + 2] = metric.parse().unwrap();
             }
             let input = || format!("mode {m} {text}");
-            let ours = read(m as u8, 0, &t, &mut Areas::new(48));
+            let mut ours = lent(Header::lengths(48));
+            s.pair(told(ours.read(m as u8, 0, &t)), 0, input);
             s.pair(ours.word, word, input);
             s.pair(ours.score.to_bits() as u64, f32::to_bits(score) as u64, input);
-            s.pair(16 * ours.outcome + ours.pass, 16 * outcome + pass, input);
+            s.pair(how(&ours), 16 * outcome + pass, input);
             header(&mut s, &c, m, 0, &t, &mut met, &input);
         }
     }
@@ -136,11 +107,11 @@ fn refused(s: &mut Section, mode: u8, kind: u8, terms: &[f32], lengths: [usize; 
     } else {
         0
     };
-    let mut areas = Areas::of(lengths);
-    let ours = read(mode, kind, terms, &mut areas);
+    let mut ours = lent(lengths);
+    let k = ours.read(mode, kind, terms);
     let input = || format!("mode {mode} kind {kind} terms {} areas {lengths:?}", terms.len());
-    s.pair(ours.refused, want, input);
-    s.pair(if want == 0 { areas.other(0, 0) } else { areas.other(PATTERN, 0xA5A5_A5A5_A5A5_A5A5) }, 0, input);
+    s.pair(told(k), want, input);
+    s.pair(if want == 0 { other(&ours, 0, 0) } else { other(&ours, PATTERN, 0xA5A5_A5A5_A5A5_A5A5) }, 0, input);
 }
 
 fn refusals(wrong: &mut bool) {

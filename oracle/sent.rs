@@ -1,17 +1,13 @@
 // A header sent: the entry against the Rust's `encode_tb` and `header_values`, and its refusals against document 01's table.
 use super::inputs::bits_of;
-use super::{KINDS, MODES, REFUSED, Section};
+use super::{KINDS, MODES, REFUSED, Section, face, told};
 use ion::phy_mfsk::hook::{Fmt, air, code};
-
-unsafe extern "C" {
-    fn probe_header_values(mode: u8, kind: u8, bits: *const u8, length: usize, values: *mut u8, room: usize) -> u64;
-}
 
 /// What a lent list holds before the call: no label, so that a slot left out shows.
 const UNTOUCHED: u8 = 0xA5;
 
 fn sent(mode: u8, kind: u8, bits: &[u8], values: &mut [u8]) -> u64 {
-    unsafe { probe_header_values(mode, kind, bits.as_ptr(), bits.len(), values.as_mut_ptr(), values.len()) }
+    told(face::header_values(mode, kind, bits, values))
 }
 
 /// One header in both modes, three pairs each: the answer, how many slots differ from `header_values`, how many steps from `encode_tb`.

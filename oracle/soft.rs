@@ -1,59 +1,37 @@
 // Metrics and soft bits: the entry against the second half of the Rust's `service_burst` with document 01's two stand-ins inside
 // `lse`, bit for bit; its refusals against document 01's table; and how far the stand-ins lie from the library's functions.
 use super::inputs::{self, dirty, rows};
-use super::{KINDS, MODES, REFUSED, Section};
+use super::face::Soft as Lent;
+use super::{KINDS, MODES, REFUSED, Section, told};
 use ion::phy_mfsk::hook::{air, blanked_frac, soft_terms, windows};
 
 unsafe extern "C" {
-    fn probe_soft_values(
-        mode: u8, kind: u8, form: u8, window: u32, bits: u32, terms: *const f32, terms_length: usize, blanked: *const u32, blanked_length: usize,
-        work: *mut f32, work_length: usize, metrics: *mut f32, metrics_length: usize, out: *mut f32, out_length: usize,
-    ) -> u64;
     fn probe_exp(t: f32) -> f32;
     fn probe_ln_1p(u: f32) -> f32;
-}
-
-/// What is lent: the inputs, and three lists that start with other bits, NaNs with payloads among them.
-#[derive(Clone)]
-struct Lent {
-    mode: u8,
-    kind: u8,
-    form: u8,
-    window: u32,
-    bits: u32,
-    terms: Vec<f32>,
-    blanked: Vec<u32>,
-    work: Vec<f32>,
-    metrics: Vec<f32>,
-    soft: Vec<f32>,
 }
 
 fn patterns(list: &[f32]) -> Vec<u32> {
     list.iter().map(|x| x.to_bits()).collect()
 }
 
+/// What is lent: the inputs, and three lists that start with other bits, NaNs with payloads among them.
 impl Lent {
     /// A burst with lists of its lengths; terms and counts to be filled.
     fn new(mode: u8, kind: u8, form: u8, window: u32, bits: u32, r: &mut Random) -> Self {
         let n = bits.div_ceil(5) as usize;
         Lent {
-            mode, kind, form, window, bits, terms: vec![0.0; 260 * n], blanked: vec![0; n],
+            mode, kind, symbols: form, window, bits, terms: vec![0.0; 260 * n], blanked: vec![0; n],
             work: dirty(32 * n, || r.next()), metrics: dirty(32 * n, || r.next()), soft: dirty(bits as usize, || r.next()),
         }
     }
     fn call(&mut self) -> u64 {
         let (terms, blanked) = (patterns(&self.terms), self.blanked.clone());
-        let answer = unsafe {
-            probe_soft_values(
-                self.mode, self.kind, self.form, self.window, self.bits, self.terms.as_ptr(), self.terms.len(), self.blanked.as_ptr(), self.blanked.len(),
-                self.work.as_mut_ptr(), self.work.len(), self.metrics.as_mut_ptr(), self.metrics.len(), self.soft.as_mut_ptr(), self.soft.len(),
-            )
-        };
+        let answer = told(self.values());
         assert!(terms == patterns(&self.terms) && blanked == self.blanked);
         answer
     }
     fn say(&self) -> String {
-        let Lent { mode, kind, form, window, bits, .. } = self;
+        let Lent { mode, kind, symbols: form, window, bits, .. } = self;
         format!("mode {mode} kind {kind} form {form} window {window} bits {bits} counts {:?} first terms {:?}", &self.blanked[..self.blanked.len().min(4)], &self.terms[..self.terms.len().min(4)])
     }
 }
@@ -82,7 +60,7 @@ fn burst(s: &mut Section, floats: &mut u64, b: &mut Lent) {
     let terms = rows(&b.terms);
     let blanked: Vec<f32> = b.blanked.iter().map(|&c| blanked_frac(c, b.window as usize, 1)).collect();
     let hsyms = air::header_info_bits(KINDS[b.kind as usize]);
-    let want = soft_terms(MODES[b.mode as usize], b.form == 1, hsyms, b.bits as usize, &terms, &blanked);
+    let want = soft_terms(MODES[b.mode as usize], b.symbols == 1, hsyms, b.bits as usize, &terms, &blanked);
     let answer = b.call();
     let b = &*b;
     s.pair(answer, 0, || b.say());

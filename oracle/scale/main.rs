@@ -1,12 +1,13 @@
 // Runs all seven entries side by side at scale: ours through the C functions of libion.a, the Rust's through the hook.
 // Built and run by scale.sh, whose head says what can be asked.
+#[path = "../face.rs"]
+mod face;
 #[path = "../inputs.rs"]
 mod inputs;
 #[path = "../made.rs"]
 mod made;
 
 mod check;
-mod face;
 mod headers;
 mod jobs;
 mod replay;
