@@ -74,8 +74,8 @@ pub fn lse(a: f32, b: f32) -> f32
     b + ln_1p(exp(a - b))
 }
 
-// Whether a symbol is mostly blanked: more than half of the span·window samples behind it.
-fn erased(span: u64, window: u32, count: u32) -> bool
+// Inside: whether a symbol is mostly blanked, more than half of the span·window samples behind it.
+pub fn erased(span: u64, window: u32, count: u32) -> bool
     requires { ⌜ span ≤ 255 ⌝ }
     ensures { λ r. ⌜ r ≡ erasedOf span window count ⌝ }
 {
