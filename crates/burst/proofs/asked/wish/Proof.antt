@@ -1,0 +1,50 @@
+-- `burst::asked::wish` ends: the measure is what is left of the arguments. Assumes nothing.
+use Prim.Native.Nat.{_-_, _≤_}
+use borrow.Author.Needs.{needs}
+use Rattle.burst.proofs.asked.wish.Statement.{statement}
+use Rattle.burst.proofs.asked.wish.Tie as tie
+
+abbrev Inv-loop : tie.InvT-loop
+Inv-loop all₀ i₀ i-end all i = i₀ ≤ i
+
+abbrev μ-loop : tie.MeasureT-loop
+μ-loop all₀ i₀ i-end all i = i-end - i
+
+arg-count-requires : tie.Need-arg-count-requires Inv-loop μ-loop
+arg-count-requires c κs = search needs
+
+loop-holds : tie.Need-loop-holds Inv-loop μ-loop
+loop-holds c = search needs
+
+asked-requires : tie.Need-asked-requires Inv-loop μ-loop
+asked-requires c κs = search needs
+
+both-requires : tie.Need-both-requires Inv-loop μ-loop
+both-requires c κs = search needs
+
+add-i : tie.Need-add-i Inv-loop μ-loop
+add-i c = search needs
+
+loop-less : tie.Need-loop-less Inv-loop μ-loop
+loop-less c = search needs
+
+loop-again : tie.Need-loop-again Inv-loop μ-loop
+loop-again c = search needs
+
+returns : tie.Need-returns Inv-loop μ-loop
+returns c = search needs
+
+pub wish-spec : {M : Type 1} → statement M
+wish-spec =
+    tie.close
+    (tie.spec
+    Inv-loop
+    μ-loop
+    arg-count-requires
+    loop-holds
+    asked-requires
+    both-requires
+    add-i
+    loop-less
+    loop-again
+    returns)

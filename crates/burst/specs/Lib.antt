@@ -1,0 +1,3 @@
+-- What the promises of `burst` cite.
+pub mod Layout
+pub mod Verdict

@@ -1,0 +1,72 @@
+// What is told of a burst beside the entries' answers: its CRC and how many data symbols are erased.
+ghost use Prim.Native.Nat.{_+_, _≤_};
+ghost use mathlib.Core.Path.{_≡_};
+ghost use lib.ListN.{length};
+ghost use Rattle.soft.specs.Symbol.{erasedOf};
+ghost use Rattle.burst.specs.Verdict.{highFirst};
+
+// The header's bits, a byte each, bit 0 of the word first.
+fn bits_of(word: u64) -> [u8; 64]
+    ensures { λ r. ⌜ 64 ≡ length r ⌝ }
+{
+    let mut out = [0u8; 64];
+    let mut rest = word;
+    for k in 0..64 {
+        out[k] = (rest % 2) as u8;
+        rest = rest / 2;
+    }
+    out
+}
+
+fn wide(x: u8) -> u64
+    ensures { λ r. ⌜ r ≡ x ⌝ }
+{
+    x as u64
+}
+
+// The 16 bits from a place on, the first one highest.
+fn last_sixteen(bits: &[u8], at: usize) -> u64
+    requires { ⌜ at + 16 ≤ length (now bits) ⌝ }
+{
+    let mut sum: u64 = 0;
+    for k in 0..16usize {
+        sum = std::num::wrapping_add_u64(sum << 1, wide(bits[at + k]));
+    }
+    sum
+}
+
+fn agrees(mode: u8, kind: u8, bits: &[u8], last: u64) -> bool {
+    match frame::crc(mode, kind, bits) {
+        frame::Crc16::Value(crc) => crc as u64 == last,
+        frame::Crc16::Refused(_) => false,
+    }
+}
+
+// Whether the header's last 16 bits, the first one highest, are the CRC of the bits before, whose start is of mode and
+// kind (frame.rs, `parse_header`; bits 32 to 47 of a HeaderOnly or Cue header, 48 to 63 of a Data header).
+pub fn is_good(mode: u8, kind: u8, word: u64) -> bool {
+    let bits = bits_of(word);
+    if kind == 1 {
+        let last = last_sixteen(&bits, 48);
+        return agrees(mode, kind, &bits[..48], last);
+    }
+    let last = last_sixteen(&bits, 32);
+    agrees(mode, kind, &bits[..32], last)
+}
+
+// Whether a symbol is erased: more than half of its 7·window samples are blanked (document 01).
+fn is_erased(window: u32, count: u32) -> bool
+    ensures { λ r. ⌜ r ≡ erasedOf 7 window count ⌝ }
+{
+    2 * (count as u64) > 7 * (window as u64)
+}
+
+pub fn erased(window: u32, counts: &[u32]) -> u64 {
+    let mut n: u64 = 0;
+    for i in 0..counts.len() {
+        if is_erased(window, counts[i]) {
+            n = std::num::wrapping_add_u64(n, 1);
+        }
+    }
+    n
+}
