@@ -1,0 +1,118 @@
+// Holds the program `burst` to the Rust over made bursts: what it prints, bit for bit, and that a damaged file gets one line on standard error,
+// an empty standard output, and status 1 from `burst | grep .`. With a file and the words soft and metrics it prints what the Rust says of the file.
+mod made;
+use ion::fec::conv::ConvCode;
+use ion::phy_mfsk::hook::{Terms, air, blanked_frac, code, decode_terms_told, soft_terms, windows};
+use made::{Burst, DAMAGE, Dice, How, KINDS, MODES, made, write};
+use std::fmt::Write as _;
+use std::io::Write as _;
+use std::process::{Command, Stdio};
+
+fn rows(terms: &[f32]) -> Vec<Terms> {
+    terms.chunks(260).map(|s| std::array::from_fn(|r| std::array::from_fn(|p| s[52 * r + p]))).collect()
+}
+
+/// Three places, half away from zero, and the pattern.
+fn float(x: f32) -> String {
+    let n = (x.abs() as f64 * 1000.0 + 0.5) as u64;
+    format!("{}{}.{:03} ({:08x})", if x.is_sign_negative() { "-" } else { "" }, n / 1000, n % 1000, x.to_bits())
+}
+
+/// What the Rust reads: the word, whether its CRC is good, and the lines.
+fn expected(c: &ConvCode, b: &Burst, soft: bool, metrics: bool) -> (u64, bool, String) {
+    let (mode, kind) = (MODES[b.mode as usize], KINDS[b.kind as usize]);
+    let (bits, score, (how, pass, _)) = decode_terms_told(c, mode, kind, &rows(&b.header_terms));
+    let word = bits.iter().rev().fold(0, |w, &b| w << 1 | b as u64);
+    let n = bits.len() - 16;
+    let good = air::crc16(&bits[..n], air::crc_start(1, mode, kind)) as u32 == air::read_bits(&bits[n..], 16);
+    let blanked: Vec<f32> = b.blanked.iter().map(|&c| blanked_frac(c, b.window as usize, 1)).collect();
+    let out = soft_terms(mode, b.symbols, bits.len(), b.bits as usize, &rows(&b.data_terms), &blanked);
+    let mut s = String::new();
+    let outcome = [format!("Sure, pass {pass}"), "Kept".into(), "Open".into()][how as usize].clone();
+    writeln!(s, "header {word:0w$x}\noutcome {outcome}\nscore {}\nCRC {}", float(score), if good { "good" } else { "bad" }, w = bits.len() / 4).unwrap();
+    writeln!(s, "data symbols {}, erased {}", blanked.len(), blanked.iter().filter(|&&f| f > 0.5).count()).unwrap();
+    if soft {
+        out.llrs.iter().enumerate().for_each(|(i, x)| writeln!(s, "soft {i}: {}", float(*x)).unwrap());
+    }
+    if metrics {
+        out.metrics.iter().enumerate().for_each(|(i, x)| writeln!(s, "metric {} {}: {}", i / 32, i % 32, float(*x)).unwrap());
+    }
+    (word, good, s)
+}
+
+/// Runs `burst` with `grep .` behind it: what both wrote, and grep's status.
+fn run(file: &[u8], words: &str) -> (String, String, Option<i32>) {
+    let mut p = Command::new("sh").args(["-c", &format!("target/bin/burst {words} | grep .")]).stdin(Stdio::piped()).stdout(Stdio::piped()).stderr(Stdio::piped()).spawn().unwrap();
+    let mut input = p.stdin.take().unwrap();
+    let file = file.to_vec();
+    // a refused file is not read to its end
+    let writer = std::thread::spawn(move || input.write_all(&file).ok());
+    let out = p.wait_with_output().unwrap();
+    writer.join().unwrap();
+    (String::from_utf8_lossy(&out.stdout).into(), String::from_utf8_lossy(&out.stderr).into(), out.status.code())
+}
+
+/// A burst of every mode, kind, form and window by turns, over channels from good to hopeless.
+fn how(i: u64, d: &mut Dice) -> How {
+    let mode = (i % 2) as u8;
+    How {
+        mode,
+        kind: (i / 2 % 3) as u8,
+        symbols: i / 6 % 2 == 1,
+        window: windows(MODES[mode as usize])[(i / 12 % 3) as usize] as u32,
+        bits: if i < 2 { 10_240 } else { [0, 1, 4, 5, 6, 10, 33, 64, 100, 320, 1000][d.below(11) as usize] },
+        snr: [20.0, 6.0, 0.0, -6.0, -9.0, -12.0, -15.0, -30.0][d.below(8) as usize],
+        doppler: [0.0, 0.5, 2.0, 10.0][d.below(4) as usize],
+        delay: [0.0, 1.0, 4.0][d.below(3) as usize],
+        carrier: [None, None, Some(0.0), Some(12.0)][d.below(4) as usize],
+        blanked: [0.0, 0.0, 0.2, 1.0][d.below(4) as usize],
+    }
+}
+
+fn main() {
+    let c = code();
+    let args: Vec<String> = std::env::args().skip(1).collect();
+    if let Some(path) = args.first().filter(|a| a.parse::<u64>().is_err()) {
+        let b = made::read(&std::fs::read(path).unwrap()).unwrap();
+        print!("{}", expected(&c, &b, args.contains(&"soft".into()), args.contains(&"metrics".into())).2);
+        return;
+    }
+    let all: u64 = args.first().map_or(200, |a| a.parse().unwrap());
+    let mut d = Dice(2);
+    let (mut differ, mut floats, mut sent, mut wrong_good, mut outcomes, mut bad) = (0, 0, 0, 0, [0; 3], 0);
+    for i in 0..all {
+        let h = how(i, &mut d);
+        let b = made(i, &h);
+        let words = ["", "soft", "metrics", "soft metrics"][(i % 4) as usize];
+        let (word, good, want) = expected(&c, &b, words.contains("soft"), words.contains("metrics"));
+        let (out, err, status) = run(&write(&b), words);
+        sent += (word == b.word) as u64;
+        wrong_good += (word != b.word && good) as u64;
+        outcomes[["Sure", "Kept", "Open"].iter().position(|o| want.contains(o)).unwrap()] += 1;
+        floats += want.matches('(').count();
+        if (out.as_str(), err.as_str(), status) != (want.as_str(), "", Some(0)) {
+            differ += 1;
+            println!("differs: seed {i} {h:?} {words}: {status:?} {err}{}", out.lines().zip(want.lines()).find(|(a, b)| a != b).map_or(String::new(), |(a, b)| format!("{a}, the Rust {b}")));
+        }
+        let (what, number) = DAMAGE[(i % DAMAGE.len() as u64) as usize];
+        let mut file = write(&b);
+        if what == "count" && b.bits == 0 {
+            continue;
+        }
+        made::damage(&mut file, what).unwrap();
+        let (out, err, status) = run(&file, words);
+        bad += 1;
+        let told = err.starts_with("burst: ") && err.ends_with('\n') && err.lines().count() == 1 && (number == 0) != err.starts_with(&format!("burst: refused: {number}, "));
+        if !out.is_empty() || !told || status != Some(1) {
+            differ += 1;
+            println!("damaged: seed {i} {what}: {status:?} {err}{out}");
+        }
+    }
+    let (out, err, status) = run(&write(&made(0, &How::default())), "loud");
+    if (out.as_str(), status) != ("", Some(1)) || err.lines().count() != 1 {
+        differ += 1;
+        println!("an unknown word: {status:?} {err}{out}");
+    }
+    println!("{all} bursts: {floats} floats; Sure, Kept, Open {outcomes:?}; {sent} words as sent, {wrong_good} others with a good CRC; {bad} damaged files; {differ} differ");
+    std::process::exit((differ > 0) as i32);
+}
