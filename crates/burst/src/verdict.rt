@@ -1,13 +1,16 @@
 // What is told of a burst beside the entries' answers: its CRC and how many data symbols are erased.
-ghost use Prim.Native.Nat.{_+_, _≤_};
+ghost use Prim.Native.Nat.{ℕ, _+_, _≤_, _<_};
 ghost use mathlib.Core.Path.{_≡_};
-ghost use lib.ListN.{length};
+ghost use lib.ListN.{length, getD};
+ghost use Rattle.util.specs.Choose.{choose};
+ghost use Rattle.frame.specs.Crc.{crcAnswer};
 ghost use Rattle.soft.specs.Symbol.{erasedOf};
-ghost use Rattle.burst.specs.Verdict.{highFirst};
+ghost use Rattle.burst.specs.Verdict.{bitOf, highFirst, equals, crcGood, countOf};
 
 // The header's bits, a byte each, bit 0 of the word first.
 fn bits_of(word: u64) -> [u8; 64]
-    ensures { λ r. ⌜ 64 ≡ length r ⌝ }
+    ensures size { λ r. ⌜ 64 ≡ length r ⌝ }
+    ensures bits { λ r. ⌜ ((k : ℕ) → k < 64 → getD r k 0 ≡ bitOf word k) ⌝ }
 {
     let mut out = [0u8; 64];
     let mut rest = word;
@@ -27,15 +30,18 @@ fn wide(x: u8) -> u64
 // The 16 bits from a place on, the first one highest.
 fn last_sixteen(bits: &[u8], at: usize) -> u64
     requires { ⌜ at + 16 ≤ length (now bits) ⌝ }
+    ensures { λ r. ⌜ r ≡ highFirst (λ k. getD (now (bits .entry)) k 0) at 16 ⌝ }
 {
     let mut sum: u64 = 0;
     for k in 0..16usize {
-        sum = std::num::wrapping_add_u64(sum << 1, wide(bits[at + k]));
+        sum = 2 * sum + wide(bits[at + k]);
     }
     sum
 }
 
-fn agrees(mode: u8, kind: u8, bits: &[u8], last: u64) -> bool {
+fn agrees(mode: u8, kind: u8, bits: &[u8], last: u64) -> bool
+    ensures { λ r. ⌜ r ≡ equals (crcAnswer mode kind (now (bits .entry))) last ⌝ }
+{
     match frame::crc(mode, kind, bits) {
         frame::Crc16::Value(crc) => crc as u64 == last,
         frame::Crc16::Refused(_) => false,
@@ -44,7 +50,9 @@ fn agrees(mode: u8, kind: u8, bits: &[u8], last: u64) -> bool {
 
 // Whether the header's last 16 bits, the first one highest, are the CRC of the bits before, whose start is of mode and
 // kind (frame.rs, `parse_header`; bits 32 to 47 of a HeaderOnly or Cue header, 48 to 63 of a Data header).
-pub fn is_good(mode: u8, kind: u8, word: u64) -> bool {
+pub fn is_good(mode: u8, kind: u8, word: u64) -> bool
+    ensures { λ r. ⌜ r ≡ crcGood mode kind word ⌝ }
+{
     let bits = bits_of(word);
     if kind == 1 {
         let last = last_sixteen(&bits, 48);
@@ -61,12 +69,24 @@ fn is_erased(window: u32, count: u32) -> bool
     2 * (count as u64) > 7 * (window as u64)
 }
 
-pub fn erased(window: u32, counts: &[u32]) -> u64 {
+// One more where a place has it.
+fn more(n: u64, has: bool) -> u64
+    requires { ⌜ n < 18446744073709551615 ⌝ }
+    ensures count { λ r. ⌜ r ≡ choose has (n + 1) n ⌝ }
+    ensures most { λ r. ⌜ r ≤ n + 1 ⌝ }
+{
+    if has {
+        return n + 1;
+    }
+    n
+}
+
+pub fn erased(window: u32, counts: &[u32]) -> u64
+    ensures { λ r. ⌜ r ≡ countOf (λ i. erasedOf 7 window (getD (now (counts .entry)) i 0)) (length (now (counts .entry))) ⌝ }
+{
     let mut n: u64 = 0;
     for i in 0..counts.len() {
-        if is_erased(window, counts[i]) {
-            n = std::num::wrapping_add_u64(n, 1);
-        }
+        n = more(n, is_erased(window, counts[i]));
     }
     n
 }

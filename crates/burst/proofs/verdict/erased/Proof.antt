@@ -1,18 +1,30 @@
--- `burst::verdict::erased` is safe and ends: the measure is what is left of the list. Assumes nothing.
-use Prim.Native.Nat.{_-_, _≤_}
-use lib.ListN.{length}
+-- `burst::verdict::erased` meets its contract. The invariant: the count is that of the places passed. The measure is what is left of the list. Assumes nothing.
+use Prim.Native.Nat.{ℕ, _+_, _-_, _≤_}
+use mathlib.Core.Bool.{Bool}
+use mathlib.Core.Path.{_≡_, refl, sym, ap, ap₂, _∙_}
+use native.Mathlib.Omega.{arith}
+use native.Mathlib.Numerals.{add-one}
+use lib.ListN.{length, getD}
+use Rattle.util.specs.Choose.{choose}
+use Rattle.soft.specs.Symbol.{erasedOf}
+use Rattle.burst.specs.Verdict.{countOf}
 use borrow.Author.Needs.{needs}
 use Rattle.burst.proofs.verdict.erased.Statement.{statement}
 use Rattle.burst.proofs.verdict.erased.Tie as tie
 
+next : (has : ℕ → Bool) (i n r : ℕ) (b : Bool) → b ≡ has i → n ≡ countOf has i → r ≡ choose b (n + 1) n → r ≡ countOf has (i + 1)
+unfolding countOf
+next has i n r b e f g = g ∙ ap₂ (λ (t : Bool) (x : ℕ). choose t (x + 1) x) e f ∙ ap (countOf has) (sym (add-one i))
+
 abbrev Inv-loop : tie.InvT-loop
-Inv-loop window counts n₀ i₀ i-end n i = i ≤ length counts
+Inv-loop window counts n₀ i₀ i-end n i = (i ≤ length counts) × (n ≡ countOf (λ k. erasedOf 7 window (getD counts k 0)) i) × (n ≤ i)
 
 abbrev μ-loop : tie.MeasureT-loop
 μ-loop window counts n₀ i₀ i-end n i = length counts - i
 
 loop-holds : tie.Need-loop-holds Inv-loop μ-loop
-loop-holds c = search needs
+unfolding countOf
+loop-holds c = (omega arith, refl, omega arith)
 
 mul-is-erased : tie.Need-mul-is-erased Inv-loop μ-loop
 mul-is-erased c = search needs
@@ -23,8 +35,8 @@ shared-slice-read-is-erased c = search needs
 is-erased-requires : tie.Need-is-erased-requires Inv-loop μ-loop
 is-erased-requires c κs = search needs
 
-wrapping-add-u64-requires : tie.Need-wrapping-add-u64-requires Inv-loop μ-loop
-wrapping-add-u64-requires c κs = search needs
+more-requires : tie.Need-more-requires Inv-loop μ-loop
+more-requires c κs = search needs
 
 add-i : tie.Need-add-i Inv-loop μ-loop
 add-i c = search needs
@@ -33,10 +45,19 @@ loop-less : tie.Need-loop-less Inv-loop μ-loop
 loop-less c = search needs
 
 loop-again : tie.Need-loop-again Inv-loop μ-loop
-loop-again c = search needs
+loop-again c =
+    let at = c .before .before .before .before in
+    let a = at .before .before .args in
+    let has : ℕ → Bool = λ k. erasedOf 7 (a .window) (getD (a .counts .now) k 0) in (
+      omega arith,
+      next has (at .loop .i) (at .loop .n) (c .more .result) (c .before .is-erased .result) (c .before .is-erased .ensures) (at .loop .inv .1) (c .more .ensures .0),
+      omega (arith, c .more .ensures .1),
+    )
 
 returns : tie.Need-returns Inv-loop μ-loop
-returns c = search needs
+returns c =
+    let all : c .before .loop .i ≡ length (c .before .before .before .args .counts .now) = omega arith in
+    rw all at (c .before .loop .inv .1)
 
 pub erased-spec : {M : Type 1} → statement M
 erased-spec =
@@ -48,7 +69,7 @@ erased-spec =
     mul-is-erased
     shared-slice-read-is-erased
     is-erased-requires
-    wrapping-add-u64-requires
+    more-requires
     add-i
     loop-less
     loop-again

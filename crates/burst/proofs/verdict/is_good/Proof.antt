@@ -1,10 +1,37 @@
--- `burst::verdict::is_good` is safe: a header of 48 or 64 bits lies in the 64. Assumes nothing.
-use mathlib.Core.Path.{sym}
+-- `burst::verdict::is_good` meets its contract: the array's first places are the header's bits. Assumes nothing.
+use Prim.Native.Nat.{ℕ, zero, suc, _+_, _-_, _*_, _≤_, _<_}
+use mathlib.Core.Bool.{Bool}
+use mathlib.Core.List.{List}
+use mathlib.Core.Path.{_≡_, refl, sym, ap, ap₂, _∙_}
 use native.Mathlib.Omega.{arith}
-use lib.Seq.{length-take-le}
+use lib.ListN.{length, getD, take}
+use lib.Seq.{length-take-le, getD-take}
+use borrow.Author.Tests.{eq-eqb, ne-eqb}
+use Rattle.util.specs.Choose.{choose}
+use Rattle.util.specs.Table.{tabled}
+use Rattle.util.proofs.Fill.{tabled-only}
+use Rattle.frame.specs.Format.{headerBits}
+use Rattle.frame.specs.Crc.{crcAnswer}
+use Rattle.burst.specs.Verdict.{bitOf, highFirst, equals, crcGood}
 use borrow.Author.Needs.{needs}
 use Rattle.burst.proofs.verdict.is_good.Statement.{statement}
 use Rattle.burst.proofs.verdict.is_good.Tie as tie
+
+-- the number depends on its 16 bits alone
+same : (f g : ℕ → ℕ) (at n : ℕ) → ((k : ℕ) → k < n → f (at + k) ≡ g (at + k)) → highFirst f at n ≡ highFirst g at n
+unfolding highFirst
+same f g at zero e = refl
+same f g at (suc n) e = ap₂ (λ (x y : ℕ). 2 * x + y) (same f g at n (λ k h. e k (omega arith))) (e n (omega arith))
+
+good : (mode kind word n last : ℕ) (bits : List ℕ) (r : Bool) → headerBits kind - 16 ≡ n → n + 16 ≤ 64 → 64 ≡ length bits → ((k : ℕ) → k < 64 → getD bits k 0 ≡ bitOf word k)
+    → last ≡ highFirst (λ k. getD bits k 0) n 16 → r ≡ equals (crcAnswer mode kind (take n bits)) last → r ≡ crcGood mode kind word
+unfolding crcGood
+good mode kind word n last bits r e small long each l h =
+    h
+    ∙ ap₂ (λ (b : List ℕ) (x : ℕ). equals (crcAnswer mode kind b) x)
+    (tabled-only n (bitOf word) 0 (take n bits) (length-take-le n bits (omega arith)) (λ i below. getD-take n bits i 0 below ∙ each i (omega arith)))
+    (l ∙ same (λ k. getD bits k 0) (bitOf word) n 16 (λ k below. each (n + k) (omega arith)))
+    ∙ ap (λ (m : ℕ). equals (crcAnswer mode kind (tabled m (bitOf word))) (highFirst (bitOf word) m 16)) (sym e)
 
 bits-of-requires : tie.Need-bits-of-requires
 bits-of-requires c κs = search needs
@@ -25,7 +52,10 @@ agrees-requires : tie.Need-agrees-requires
 agrees-requires c κs = search needs
 
 returns : tie.Need-returns
-returns c = search needs
+returns c =
+    let b = c .before .before .before .before .before .bits-of in
+    let kind = ap (λ (t : Bool). choose t 64 48 - 16) (eq-eqb _ _ (c .before .before .before .before .if1 .taken)) in
+    good _ _ _ 48 (c .before .before .last-sixteen .result) (b .result) (c .agrees .result) kind (omega arith) (b .ensures .0) (b .ensures .1) (c .before .before .last-sixteen .ensures) (c .agrees .ensures)
 
 slice-aggregate-last-sixteen-2 : tie.Need-slice-aggregate-last-sixteen-2
 slice-aggregate-last-sixteen-2 c = search needs
@@ -43,7 +73,10 @@ agrees-requires-2 : tie.Need-agrees-requires-2
 agrees-requires-2 c κs = search needs
 
 returns-2 : tie.Need-returns-2
-returns-2 c = search needs
+returns-2 c =
+    let b = c .before .before .before .before .before .bits-of in
+    let kind = ap (λ (t : Bool). choose t 64 48 - 16) (ne-eqb _ _ (c .before .before .before .before .if1 .left)) in
+    good _ _ _ 32 (c .before .before .last-sixteen2 .result) (b .result) (c .agrees2 .result) kind (omega arith) (b .ensures .0) (b .ensures .1) (c .before .before .last-sixteen2 .ensures) (c .agrees2 .ensures)
 
 pub is-good-spec : {M : Type 1} → statement M
 is-good-spec =
