@@ -284,6 +284,9 @@ pub const DAMAGE: [(&str, u8); 13] = [
 /// Spoils a good file in the way that the word names.
 pub fn damage(file: &mut Vec<u8>, what: &str) -> Result<(), String> {
     let n = file.len();
+    if what == "count" && file[16..HEAD] == [0; 4] {
+        return Err("a burst with no data has no counts".into());
+    }
     let mut put = |at: usize, x: u32| file[at..at + 4].copy_from_slice(&x.to_le_bytes());
     match what {
         "nan" => put(HEAD + 4 * 1000, 0x7F80_0001),

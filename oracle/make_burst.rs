@@ -62,5 +62,7 @@ fn main() {
     if let Some(what) = damage {
         made::damage(&mut out, &what).unwrap_or_else(|why| stop(&why));
     }
-    std::io::stdout().write_all(&out).unwrap();
+    if std::io::stdout().write_all(&out).is_err() {
+        std::process::exit(1);
+    }
 }
