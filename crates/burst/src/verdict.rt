@@ -62,13 +62,6 @@ pub fn is_good(mode: u8, kind: u8, word: u64) -> bool
     agrees(mode, kind, &bits[..32], last)
 }
 
-// Whether a symbol is erased: more than half of its 7·window samples are blanked (document 01).
-fn is_erased(window: u32, count: u32) -> bool
-    ensures { λ r. ⌜ r ≡ erasedOf 7 window count ⌝ }
-{
-    2 * (count as u64) > 7 * (window as u64)
-}
-
 // One more where a place has it.
 fn more(n: u64, has: bool) -> u64
     requires { ⌜ n < 18446744073709551615 ⌝ }
@@ -81,12 +74,13 @@ fn more(n: u64, has: bool) -> u64
     n
 }
 
+// How many symbols are erased: more than half of their 7·window samples are blanked.
 pub fn erased(window: u32, counts: &[u32]) -> u64
     ensures { λ r. ⌜ r ≡ countOf (λ i. erasedOf 7 window (getD (now (counts .entry)) i 0)) (length (now (counts .entry))) ⌝ }
 {
     let mut n: u64 = 0;
     for i in 0..counts.len() {
-        n = more(n, is_erased(window, counts[i]));
+        n = more(n, soft::erased(7, window, counts[i]));
     }
     n
 }

@@ -26,14 +26,14 @@ loop-holds : tie.Need-loop-holds Inv-loop μ-loop
 unfolding countOf
 loop-holds c = (omega arith, refl, omega arith)
 
-mul-is-erased : tie.Need-mul-is-erased Inv-loop μ-loop
-mul-is-erased c = search needs
+mul-erased : tie.Need-mul-erased Inv-loop μ-loop
+mul-erased c = search needs
 
-shared-slice-read-is-erased : tie.Need-shared-slice-read-is-erased Inv-loop μ-loop
-shared-slice-read-is-erased c = search needs
+shared-slice-read-erased : tie.Need-shared-slice-read-erased Inv-loop μ-loop
+shared-slice-read-erased c = search needs
 
-is-erased-requires : tie.Need-is-erased-requires Inv-loop μ-loop
-is-erased-requires c κs = search needs
+erased-requires : tie.Need-erased-requires Inv-loop μ-loop
+erased-requires c κs = search needs
 
 more-requires : tie.Need-more-requires Inv-loop μ-loop
 more-requires c κs = search needs
@@ -50,7 +50,7 @@ loop-again c =
     let a = at .before .before .args in
     let has : ℕ → Bool = λ k. erasedOf 7 (a .window) (getD (a .counts .now) k 0) in (
       omega arith,
-      next has (at .loop .i) (at .loop .n) (c .more .result) (c .before .is-erased .result) (c .before .is-erased .ensures) (at .loop .inv .1) (c .more .ensures .0),
+      next has (at .loop .i) (at .loop .n) (c .more .result) (c .before .erased .result) (c .before .erased .ensures) (at .loop .inv .1) (c .more .ensures .0),
       omega (arith, c .more .ensures .1),
     )
 
@@ -66,9 +66,9 @@ erased-spec =
     Inv-loop
     μ-loop
     loop-holds
-    mul-is-erased
-    shared-slice-read-is-erased
-    is-erased-requires
+    mul-erased
+    shared-slice-read-erased
+    erased-requires
     more-requires
     add-i
     loop-less
