@@ -1,16 +1,14 @@
 // Holds the program `burst` to the Rust over made bursts: what it prints, bit for bit, and that a damaged file gets one line on standard error,
 // an empty standard output, and status 1 from `burst | grep .`. With a file and the words soft and metrics it prints what the Rust says of the file.
+mod inputs;
 mod made;
 use ion::fec::conv::ConvCode;
-use ion::phy_mfsk::hook::{Terms, air, blanked_frac, code, decode_terms_told, soft_terms, windows};
-use made::{Burst, DAMAGE, Dice, How, KINDS, MODES, made, write};
+use ion::phy_mfsk::hook::{air, blanked_frac, code, decode_terms_told, soft_terms, windows};
+use inputs::{Dice, rows};
+use made::{Burst, DAMAGE, How, KINDS, MODES, made, write};
 use std::fmt::Write as _;
 use std::io::Write as _;
 use std::process::{Command, Stdio};
-
-fn rows(terms: &[f32]) -> Vec<Terms> {
-    terms.chunks(260).map(|s| std::array::from_fn(|r| std::array::from_fn(|p| s[52 * r + p]))).collect()
-}
 
 /// Three places, half away from zero, and the pattern.
 fn float(x: f32) -> String {

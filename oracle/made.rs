@@ -1,6 +1,7 @@
 // Bursts made for the port: a header and data are sent by the Rust's own sending half, go through a channel at 8,000 complex samples a second,
 // and are heard as energies of 52 places, which the Rust's own model turns into terms. docs/BURST-FORMAT.md has the file's layout.
 #![allow(dead_code)]
+use crate::inputs::Dice;
 use ion::phy_mfsk::hook::{Fmt, Kind, MfskMode, Terms, air, fitted_terms, preamble_places, prior_terms, windows};
 use std::f64::consts::TAU;
 
@@ -54,24 +55,10 @@ impl Default for How {
     }
 }
 
-pub struct Dice(pub u64);
-impl Dice {
-    pub fn word(&mut self) -> u64 {
-        self.0 = self.0.wrapping_add(0x9E37_79B9_7F4A_7C15);
-        air::mix64(self.0)
-    }
-    pub fn below(&mut self, n: u64) -> u64 {
-        self.word() % n
-    }
-    /// From 0 up to 1.
-    pub fn unit(&mut self) -> f64 {
-        (self.word() >> 11) as f64 / (1u64 << 53) as f64
-    }
-    /// Two normal numbers.
-    fn normals(&mut self) -> (f64, f64) {
-        let (r, a) = ((-2.0 * (1.0 - self.unit()).ln()).sqrt(), TAU * self.unit());
-        (r * a.cos(), r * a.sin())
-    }
+/// Two normal numbers.
+fn normals(d: &mut Dice) -> (f64, f64) {
+    let (r, a) = ((-2.0 * (1.0 - d.unit()).ln()).sqrt(), TAU * d.unit());
+    (r * a.cos(), r * a.sin())
 }
 
 #[derive(Clone, Copy, Default)]
@@ -95,7 +82,7 @@ impl Complex {
 struct Path(Vec<(f64, f64)>);
 impl Path {
     fn new(spread: f64, d: &mut Dice) -> Self {
-        Path((0..12).map(|_| (d.normals().0 * spread / 2.0, TAU * d.unit())).collect())
+        Path((0..12).map(|_| (normals(d).0 * spread / 2.0, TAU * d.unit())).collect())
     }
     fn at(&self, n: usize) -> Complex {
         let waves = self.0.iter().fold(Complex::default(), |s, &(hz, a)| s.plus(Complex::turn(TAU * hz * n as f64 / RATE + a)));
@@ -130,7 +117,7 @@ fn through(z: &[Complex], fmt: Fmt, how: &How, d: &mut Dice) -> Vec<Complex> {
             gains = [paths[0].at(n).by(0.5f64.sqrt()), paths[1].at(n).by(0.5f64.sqrt())];
         }
         let late = if n >= lag { z[n - lag] } else { Complex::default() };
-        let (a, b) = d.normals();
+        let (a, b) = normals(d);
         let mut y = z[n].times(gains[0]).plus(late.times(gains[1])).plus(Complex(a, b).by(noise));
         if n >= keyed && level > 0.0 {
             y = y.plus(Complex::turn(TAU * (hz * n as f64 / RATE % 1.0)).by(level));

@@ -1,4 +1,5 @@
 // Writes one burst file (docs/BURST-FORMAT.md) to standard output, and what was sent to standard error.
+mod inputs;
 mod made;
 use ion::phy_mfsk::hook::{air, windows};
 use made::{How, KINDS, MODES, made, write};
