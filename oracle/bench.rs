@@ -1,0 +1,191 @@
+// Times of the entries against the Rust's, ours through the C functions of libion.a, the same inputs in one run, taking turns, in CPU time: median
+// and spread of the ratios. Then soft values by the number of symbols, as a plot. Built and run by bench.sh.
+#[allow(dead_code)]
+mod face;
+mod inputs;
+
+use face::{Header, Soft};
+use inputs::{Dice, rows, sample, styled};
+use ion::phy_mfsk::hook::{Kind, MfskMode, Tracker, air, code, decode_terms, soft_terms};
+use std::fmt::Write;
+use std::hint::black_box;
+
+/// Milliseconds that this thread has had a core: what other work on the machine takes is not counted.
+fn clock() -> f64 {
+    #[repr(C)]
+    #[derive(Default)]
+    struct Time {
+        s: i64,
+        ns: i64,
+    }
+    unsafe extern "C" {
+        fn clock_gettime(which: i32, t: *mut Time) -> i32;
+    }
+    const THREAD: i32 = 3; // CLOCK_THREAD_CPUTIME_ID of Linux
+    let mut t = Time::default();
+    assert_eq!(unsafe { clock_gettime(THREAD, &mut t) }, 0);
+    t.s as f64 * 1e3 + t.ns as f64 / 1e6
+}
+
+/// Milliseconds of one call.
+fn timed<T>(f: impl FnOnce() -> T) -> (f64, T) {
+    let begun = clock();
+    let out = black_box(f());
+    (clock() - begun, out)
+}
+
+/// The middle one of a list, the least and the greatest.
+fn spread(mut list: Vec<f64>) -> [f64; 3] {
+    list.sort_by(f64::total_cmp);
+    let n = list.len();
+    [(list[(n - 1) / 2] + list[n / 2]) / 2.0, list[0], list[n - 1]]
+}
+
+/// Pairs (ours, the Rust's) in milliseconds: a warm-up that is not counted, then the repeats, the side that begins changing by turns.
+fn pairs(repeats: usize, mut one: impl FnMut(u64, bool) -> (f64, f64)) -> Vec<(f64, f64)> {
+    one(0, true);
+    (1..=repeats as u64).map(|i| one(i, i % 2 == 0)).collect()
+}
+
+fn line(name: &str, pairs: &[(f64, f64)]) {
+    let [ours, ..] = spread(pairs.iter().map(|p| p.0).collect());
+    let [theirs, ..] = spread(pairs.iter().map(|p| p.1).collect());
+    let [ratio, least, greatest] = spread(pairs.iter().map(|p| p.0 / p.1).collect());
+    println!("{name:34} {ratio:6.2} {least:7.2} {greatest:9.2} {ours:11.3} {theirs:13.3}");
+}
+
+/// Both halves, in the order that was asked for.
+fn by_turns<A, B>(ours_first: bool, ours: impl FnOnce() -> A, theirs: impl FnOnce() -> B) -> ((f64, A), (f64, B)) {
+    if ours_first {
+        let a = timed(ours);
+        (a, timed(theirs))
+    } else {
+        let b = timed(theirs);
+        (timed(ours), b)
+    }
+}
+
+/// Headers of 64 symbols in R0. The Rust's table of labels is made beforehand, the areas are cleared before both.
+fn headers(repeats: usize, name: &str, style: usize) {
+    let c = code();
+    let [a, b, _, e] = Header::lengths(64);
+    let done = pairs(repeats, |i, first| {
+        let t = styled(style, MfskMode::R0, Kind::Data, &mut Dice(1 << 50 | i << 20));
+        let r = rows(&t);
+        let mut h = Header { scores: [vec![0.0; a], vec![0.0; b], vec![0.0; a]], decisions: vec![0; e], word: 0, outcome: 0, pass: 0, score: 0.0 };
+        let ((ours, k), (theirs, (bits, score))) = by_turns(first, || h.read(0, 1, &t), || decode_terms(&c, MfskMode::R0, Kind::Data, &r));
+        assert!(k == 0 && score.to_bits() == h.score.to_bits() && bits == inputs::bits_of(h.word, 64));
+        (ours, theirs)
+    });
+    line(name, &done);
+}
+
+/// Bursts of n symbols in R0: one strong tone a symbol in noise, one symbol in 50 erased.
+fn soft(repeats: usize, n: usize, symbols: bool) -> Vec<(f64, f64)> {
+    let bits = 5 * n;
+    let blanked: Vec<u32> = (0..n).map(|i| if i % 50 == 3 { 700 } else { 0 }).collect();
+    let fractions: Vec<f32> = blanked.iter().map(|&c| c as f32 / 1120.0).collect();
+    pairs(repeats, |i, first| {
+        let noise = |j: usize| (air::mix64(i << 32 | j as u64) >> 40) as f32 / 16_777_216.0 * 4.0 - 2.0;
+        let terms: Vec<f32> = (0..260 * n).map(|j| noise(j) + if j % 263 == 7 { 12.0 } else { 0.0 }).collect();
+        let theirs = rows(&terms);
+        let (work, metrics, soft) = (vec![0.0; 32 * n], vec![0.0; 32 * n], vec![0.0; bits]);
+        let mut b = Soft { mode: 0, kind: 1, symbols: symbols as u8, window: 160, bits: bits as u32, terms, blanked: blanked.clone(), work, metrics, soft };
+        let ((ours, k), (theirs, r)) = by_turns(first, || b.values(), || soft_terms(MfskMode::R0, symbols, 64, bits, &theirs, &fractions));
+        assert!(k == 0 && r.llrs == b.soft && r.metrics == b.metrics);
+        (ours, theirs)
+    })
+}
+
+/// A whole series of 2,048 calls from a fresh tracker, a drift of 100 ppm in noise.
+fn tracker(repeats: usize, name: &str, mode: u8) {
+    let (m, sym) = ([MfskMode::R0, MfskMode::R1][mode as usize], [224.0, 112.0][mode as usize]);
+    let done = pairs(repeats, |i, first| {
+        let mut d = Dice(3 << 50 | i << 20);
+        let calls: Vec<_> = (1..=2048).map(|c| sample(&mut d, 2, 100.0, sym, c, (100e-6 * sym * c as f64) as i32).unwrap()).collect();
+        let mut t = face::Tracker { n: 0, shift: 0, tnum: 0.0, tden: 0.0, drift: 0.0, blocks: 0, shifts: vec![0; 2048], places: vec![0; 64], timings: vec![0.0; 64] };
+        let mut r = Tracker::new(m);
+        let ((ours, k), (theirs, ())) =
+            by_turns(first, || calls.iter().map(|&(e, l, n)| t.track(mode, 1, e, l, n)).max(), || calls.iter().for_each(|&x| r.symbol(Some(x))));
+        assert!(k == Some(0) && r.state().5.to_bits() == t.drift.to_bits() && r.shifts() == &t.shifts[..] && t.drift != 0.0);
+        (ours, theirs)
+    });
+    line(name, &done);
+}
+
+const SIZES: [usize; 9] = [64, 128, 256, 512, 768, 1024, 1280, 1536, 2048];
+/// Name and colour of a line of the plot.
+const LINES: [(&str, &str); 4] = [("ours, bit form", "#0b5cad"), ("ours, symbol form", "#58a6e8"), ("the Rust, bit form", "#a33b00"), ("the Rust, symbol form", "#ee8a4a")];
+
+/// Time of soft values by the number of symbols; `lines` holds the milliseconds at each of SIZES.
+fn plot(lines: &[Vec<f64>; 4], repeats: usize) -> String {
+    let (left, top, wide, high) = (62.0, 42.0, 550.0, 300.0);
+    let most = lines.iter().flatten().fold(0f64, |a, &b| a.max(b));
+    // steps of 1, 2 or 5 times a power of ten, at most eight
+    let step = (-3..6).flat_map(|p| [1.0, 2.0, 5.0].map(|k| k * 10f64.powi(p))).find(|s| most / s <= 8.0).unwrap_or(most);
+    let ceiling = (most / step).ceil() * step;
+    let (x, y) = (|n: f64| left + wide * n / 2048.0, |ms: f64| top + high * (1.0 - ms / ceiling));
+    let mut s = String::from("<svg xmlns=\"http://www.w3.org/2000/svg\" width=\"640\" height=\"400\" viewBox=\"0 0 640 400\" font-family=\"sans-serif\" font-size=\"12\">\n<rect width=\"640\" height=\"400\" fill=\"white\"/>\n");
+    let mut put = |text: String| writeln!(s, "{text}").unwrap();
+    put(format!("<text x=\"{}\" y=\"22\" text-anchor=\"middle\" font-size=\"14\">Time of soft values against the symbols of a burst (mode R0, least of {repeats} bursts)</text>", left + wide / 2.0));
+    for i in 0..=(ceiling / step).round() as usize {
+        let ms = i as f64 * step;
+        put(format!("<path d=\"M{left} {y:.1}H{:.1}\" stroke=\"#ddd\"/><text x=\"{:.1}\" y=\"{:.1}\" text-anchor=\"end\">{}</text>", left + wide, left - 7.0, y(ms) + 4.0, (ms * 1000.0).round() / 1000.0, y = y(ms)));
+    }
+    for n in (0..=2048).step_by(256) {
+        put(format!("<path d=\"M{x:.1} {:.1}v5\" stroke=\"black\"/><text x=\"{x:.1}\" y=\"{:.1}\" text-anchor=\"middle\">{n}</text>", top + high, top + high + 19.0, x = x(n as f64)));
+    }
+    put(format!("<path d=\"M{left} {top}V{}H{}\" fill=\"none\" stroke=\"black\"/>", top + high, left + wide));
+    put(format!("<text x=\"{}\" y=\"{}\" text-anchor=\"middle\">symbols</text>", left + wide / 2.0, top + high + 40.0));
+    put(format!("<text transform=\"translate(18 {}) rotate(-90)\" text-anchor=\"middle\">milliseconds a burst</text>", top + high / 2.0));
+    put("<rect x=\"72\" y=\"46\" width=\"200\" height=\"86\" fill=\"white\" stroke=\"#bbb\"/>".into());
+    for (i, ((name, colour), ms)) in LINES.iter().zip(lines).enumerate() {
+        // the Rust's lines are broken and its points squares, so that no line depends on its colour
+        let rust = i >= 2;
+        let points: Vec<String> = SIZES.iter().zip(ms).map(|(&n, &t)| format!("{:.1},{:.1}", x(n as f64), y(t))).collect();
+        let dash = if rust { " stroke-dasharray=\"7 4\"" } else { "" };
+        put(format!("<polyline points=\"{}\" fill=\"none\" stroke=\"{colour}\" stroke-width=\"2\"{dash}/>", points.join(" ")));
+        let at = top + 16.0 + 20.0 * i as f64;
+        put(format!("<path d=\"M80 {at}h34\" stroke=\"{colour}\" stroke-width=\"2\"{dash}/><text x=\"122\" y=\"{}\">{name}</text>", at + 4.0));
+        for (px, py) in SIZES.iter().zip(ms).map(|(&n, &t)| (x(n as f64), y(t))).chain([(97.0, at)]) {
+            put(match rust {
+                true => format!("<rect x=\"{:.1}\" y=\"{:.1}\" width=\"6\" height=\"6\" fill=\"{colour}\"/>", px - 3.0, py - 3.0),
+                false => format!("<circle cx=\"{px:.1}\" cy=\"{py:.1}\" r=\"3.2\" fill=\"{colour}\"/>"),
+            });
+        }
+    }
+    s + "</svg>\n"
+}
+
+fn main() {
+    let word = |i: usize| std::env::args().nth(i);
+    if word(1).as_deref() == Some("once") {
+        // one burst of each form, to count its instructions
+        let n = word(2).and_then(|n| n.parse().ok()).expect("once SYMBOLS");
+        return [false, true].iter().for_each(|&form| drop(soft(0, n, form)));
+    }
+    let repeats = word(1).map_or(100, |n| n.parse().expect("how many repeats")).max(1);
+    println!("ours / the Rust, {repeats} repeats      median   least  greatest   ours, ms  the Rust, ms");
+    headers(repeats, "header read, clean", 0);
+    headers(repeats, "header read, noisy", 1);
+    headers(repeats, "header read, random", 2);
+    line("soft values, bit form, 512", &soft(repeats, 512, false));
+    line("soft values, symbol form, 512", &soft(repeats, 512, true));
+    tracker(repeats, "tracker, 2,048 calls in R0", 0);
+    tracker(repeats, "tracker, 2,048 calls in R1", 1);
+    let (few, mut lines): (usize, [Vec<f64>; 4]) = (repeats.div_ceil(4), Default::default());
+    for n in SIZES {
+        for form in 0..2 {
+            // the least: what other work on the machine adds is no part of the growth
+            let done = soft(few, n, form == 1);
+            lines[form].push(spread(done.iter().map(|p| p.0).collect())[1]);
+            lines[2 + form].push(spread(done.iter().map(|p| p.1).collect())[1]);
+        }
+    }
+    for ((name, _), ms) in LINES.iter().zip(&lines) {
+        let parts: Vec<String> = SIZES.iter().zip(ms).map(|(n, t)| format!("{n}: {t:.2}")).collect();
+        println!("{name}, least ms by symbols: {}", parts.join(", "));
+    }
+    std::fs::write("target/bench.svg", plot(&lines, few)).expect("target/bench.svg");
+    println!("target/bench.svg has the plot of them");
+}
