@@ -56,7 +56,7 @@ count-below mode n h = by (eqb mode 0)
 pub every-true : (f : ℕ → Bool) (n : ℕ) → every n f ≡ true → f n ≡ true → every (n + 1) f ≡ true
 every-true f n e h = every-next f n ∙ (λ i. e i && h i)
 
-pub every-false : (f : ℕ → Bool) (n j : ℕ) → j < n → f j ≡ false → every n f ≡ false
+every-false : (f : ℕ → Bool) (n j : ℕ) → j < n → f j ≡ false → every n f ≡ false
 unfolding every
 every-false f zero j l e = absurd (not-suc-le-zero l)
 every-false f (suc n) j l e =

@@ -196,8 +196,8 @@ pub fn none() -> Gathered
     }
 }
 
-// Whether the blocks so far are good and b, which follows them, is in range and does not fall.
-fn still_good(good: bool, last: u32, b: Block) -> bool
+// Inside: whether the blocks so far are good and b, which follows them, is in range and does not fall.
+pub fn still_good(good: bool, last: u32, b: Block) -> bool
     ensures { λ r. ⌜ r ≡ good && (leb last (b .place2) && (leb (b .place2) 4096 && within (whole 4096) (b .timing))) ⌝ }
 {
     if !good {
@@ -212,10 +212,18 @@ fn still_good(good: bool, last: u32, b: Block) -> bool
     within(4096.0, b.timing)
 }
 
-fn greater(a: u32, b: u32) -> u32
+// Inside: the greater of two twice-places.
+pub fn greater(a: u32, b: u32) -> u32
     ensures { λ r. ⌜ r ≡ choose (ltb a b) b a ⌝ }
 {
     if a < b { b } else { a }
+}
+
+// Inside: a block's place.
+pub fn half(place2: u32) -> f64
+    ensures { λ r. ⌜ r ≡ TheFit.half place2 ⌝ }
+{
+    (place2 as f64) / 2.0
 }
 
 // Inside: block i more.
@@ -225,7 +233,7 @@ pub fn push(g: Gathered, i: usize, b: Block) -> Gathered
 {
     let mut places = g.places;
     let mut timings = g.timings;
-    places[i] = (b.place2 as f64) / 2.0;
+    places[i] = half(b.place2);
     timings[i] = b.timing;
     Gathered {
         places,
@@ -333,18 +341,23 @@ fn shift_kept(z: i32) -> bool
     if -2048 <= z { z <= 2048 } else { false }
 }
 
-// Whether the first n stored shifts do.
+fn both(a: bool, b: bool) -> bool
+    ensures { λ r. ⌜ r ≡ a && b ⌝ }
+{
+    if a { b } else { false }
+}
+
+// Whether the first n stored shifts do. All are looked at, with no way out between, so that several go at once.
 fn stored_kept(shifts: &[i32], n: usize) -> bool
     requires { ⌜ n ≤ length (now shifts) ⌝ }
     ensures { λ r. ⌜ r ≡ every n (λ j. shiftKept (getD (now (shifts .entry)) j (pos 0))) ⌝ }
 {
+    let mut kept = true;
     for j in 0..n {
         let z = shifts[j];
-        if !shift_kept(z) {
-            return false;
-        }
+        kept = both(kept, shift_kept(z));
     }
-    true
+    kept
 }
 
 // Whether the sums keep the rule; 1 by -0.0 is below 0.
@@ -523,7 +536,7 @@ fn fit_with(mode: u8, g: Gathered, k: usize, b: Block) -> f64
 {
     let mut places = g.places;
     let mut timings = g.timings;
-    places[k] = (b.place2 as f64) / 2.0;
+    places[k] = half(b.place2);
     timings[k] = b.timing;
     fit_lists(frame::symbol(mode), k + 1, &places, &timings)
 }

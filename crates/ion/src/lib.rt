@@ -166,13 +166,27 @@ fn gathered(places: &[u32], timings: &[f64], k: usize) -> Gathered
     requires { ⌜ (k ≤ 64) × (k ≤ length (now places)) × (k ≤ length (now timings)) ⌝ }
     ensures { λ r. ⌜ Gathers (blocksOf (now (places .entry)) (now (timings .entry))) k r ⌝ }
 {
-    let mut g = drift::none();
+    let mut x = [0.0f64; 64];
+    let mut y = [0.0f64; 64];
+    let mut last = 0u32;
+    let mut top = 0u32;
+    let mut good = true;
     for i in 0..k {
         let place2 = places[i];
         let timing = timings[i];
-        g = drift::push(g, i, Block { place2, timing });
+        x[i] = drift::half(place2);
+        y[i] = timing;
+        good = drift::still_good(good, last, Block { place2, timing });
+        top = drift::greater(top, place2);
+        last = place2;
     }
-    g
+    Gathered {
+        places: x,
+        timings: y,
+        last,
+        top,
+        good,
+    }
 }
 
 // The number by which lists of two lengths are refused.

@@ -1,11 +1,10 @@
 -- `drift::fit_with` meets its contract. Assumes nothing.
 use borrow.Author.Needs.{needs}
-use lib.Ieee.{ofBits, ofInt}
 use Rattle.drift.proofs.fit_with.Statement.{statement}
 use Rattle.drift.proofs.fit_with.Tie as tie
 
-int-to-float-places : tie.Need-int-to-float-places
-int-to-float-places c = search needs
+half-requires : tie.Need-half-requires
+half-requires c κs = search needs
 
 mul-places : tie.Need-mul-places
 mul-places c = search needs
@@ -29,8 +28,7 @@ fit-lists-requires : tie.Need-fit-lists-requires
 fit-lists-requires c κs = search needs
 
 returns : tie.Need-returns
-unfolding ofBits ofInt
-returns c = simp (c .fit-lists .ensures, c .before .before .before .symbol .ensures)
+returns c = simp (c .fit-lists .ensures, c .before .before .before .symbol .ensures, c .before .before .before .before .half .ensures)
 
 pub fit-with-spec : {M : Type 1} → statement M
-fit-with-spec = tie.close (tie.spec int-to-float-places mul-places array-write-places mul-timings array-write-timings symbol-requires add-fit-lists fit-lists-requires returns)
+fit-with-spec = tie.close (tie.spec half-requires mul-places array-write-places mul-timings array-write-timings symbol-requires add-fit-lists fit-lists-requires returns)

@@ -1,11 +1,10 @@
 -- `drift::push` meets its contract: what its two tests give, put together. Assumes nothing.
 use borrow.Author.Needs.{needs}
-use lib.Ieee.{ofBits, ofInt}
 use Rattle.drift.proofs.push.Statement.{statement}
 use Rattle.drift.proofs.push.Tie as tie
 
-int-to-float-places : tie.Need-int-to-float-places
-int-to-float-places c = search needs
+half-requires : tie.Need-half-requires
+half-requires c κs = search needs
 
 mul-places : tie.Need-mul-places
 mul-places c = search needs
@@ -26,8 +25,7 @@ still-good-requires : tie.Need-still-good-requires
 still-good-requires c κs = search needs
 
 returns : tie.Need-returns
-unfolding ofBits ofInt
-returns c = simp (c .still-good .ensures, c .before .greater .ensures)
+returns c = simp (c .still-good .ensures, c .before .greater .ensures, c .before .before .half .ensures)
 
 pub push-spec : {M : Type 1} → statement M
-push-spec = tie.close (tie.spec int-to-float-places mul-places array-write-places mul-timings array-write-timings greater-requires still-good-requires returns)
+push-spec = tie.close (tie.spec half-requires mul-places array-write-places mul-timings array-write-timings greater-requires still-good-requires returns)

@@ -3,10 +3,9 @@ use Prim.Native.Nat.{ℕ, _<_, _≤_, _%_}
 use mathlib.Core.Path.{_≡_, refl, sym, subst, _∙_}
 use mathlib.Core.Bool.{Bool, true, false, not, true≢false}
 use lib.Dec.{T}
-use lib.Ieee.{Float, nan, inf, fin, binary32, isNan, nanBits, ofBits, div, ones, hid, top}
+use lib.Ieee.{Float, nan, inf, fin, binary32, isNan, nanBits, ofBits, div}
 use lib.Ieee.Bits.{nanBits-above, nanBits-is}
 use borrow.Author.Tests.{le-ltb, lt-ltb}
-use native.Mathlib.Omega.{arith}
 use borrow.Author.Needs.{needs}
 use Rattle.burst.proofs.input.float.Statement.{statement}
 use Rattle.burst.proofs.input.float.Tie as tie

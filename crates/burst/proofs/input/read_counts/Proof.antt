@@ -1,7 +1,6 @@
 -- `burst::input::read_counts` meets its contract. The invariant: the list keeps its length. The measure is what is left of it. Assumes nothing.
 use Prim.Native.Nat.{_-_, _≤_}
 use mathlib.Core.Path.{_≡_}
-use native.Mathlib.Omega.{arith}
 use lib.ListN.{length, length-set}
 use borrow.Author.Needs.{needs}
 use Rattle.burst.proofs.input.read_counts.Statement.{statement}

@@ -1,7 +1,6 @@
 -- `burst::input::read_terms` meets its contract. The invariant: the list keeps its length. The measure is what is left of its symbols. Assumes nothing.
 use Prim.Native.Nat.{_-_, _≤_, _/_}
 use mathlib.Core.Path.{_≡_}
-use native.Mathlib.Omega.{arith}
 use lib.ListN.{length}
 use borrow.Author.Needs.{needs}
 use Rattle.burst.proofs.input.read_terms.Statement.{statement}

@@ -1,6 +1,6 @@
 -- `burst::verdict::agrees` meets its contract: both arms are what the definition says of the entry's answer. Assumes nothing.
 use Prim.Native.Nat.{ℕ}
-use mathlib.Core.Path.{_≡_, sym, ap, _∙_}
+use mathlib.Core.Path.{sym, ap, _∙_}
 use Rattle.util.specs.Refusal.{Outcome}
 use Rattle.frame.specs.Crc.{meaning}
 use Rattle.burst.specs.Verdict.{equals}

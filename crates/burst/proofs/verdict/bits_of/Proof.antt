@@ -1,9 +1,8 @@
 -- `burst::verdict::bits_of` meets its contract. The invariant: the places passed hold their bits, and `rest` is the word without them. The measure is what is left of the 64. Assumes nothing.
-use Prim.Native.Nat.{ℕ, _+_, _-_, _*_, _/_, _%_, _^_, _≤_, _<_}
-use mathlib.Core.Path.{_≡_, refl, sym, ap, _∙_}
+use Prim.Native.Nat.{ℕ, _+_, _-_, _/_, _%_, _^_, _≤_, _<_}
+use mathlib.Core.Path.{_≡_, sym, ap, _∙_}
 use native.Mathlib.Omega.{arith}
 use native.Mathlib.Nat.{div-one, div-div-eq-div-mul, not-suc-le-zero}
-use native.Mathlib.Numerals.{add-one}
 use lib.Pow.{pow-add}
 use lib.ListN.{length, getD, length-set}
 use Rattle.util.proofs.Fill.{up-done}
