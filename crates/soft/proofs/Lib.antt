@@ -1,6 +1,7 @@
 -- Laws of this crate's definitions.
 pub mod Ways
 pub mod Same
+pub mod Sums
 pub mod Forms
 pub mod Answer
 pub mod Erasure

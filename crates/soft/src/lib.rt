@@ -10,9 +10,9 @@ ghost use Rattle.util.specs.Table.{tabled, rows, Stored};
 ghost use Rattle.ieee.specs.Whole.{plusZero};
 ghost use Rattle.ieee.specs.Within.{larger, clamp};
 ghost use Rattle.soft.specs.Lse.{num, minus, expOf, ln1pOf, lseOf};
-ghost use Rattle.soft.specs.Symbol.{erasedOf, greatestOf, metricOut, logSum, bitOf, softBit};
+ghost use Rattle.soft.specs.Symbol.{erasedOf, greatestOf, metricOut, bitOf, softBit};
 ghost use Rattle.soft.specs.Burst.{symbolsOf, heard, valueOf, metricsOut};
-ghost use Rattle.soft.specs.Inside.{Lent, Made};
+ghost use Rattle.soft.specs.Inside.{Lent, Made, Summed, softFrom};
 ghost use Rattle.soft.specs.Entry.{asked, countOut, sizes, meaning, softAnswer, metricsAfter, softAfter, workAfter};
 
 // e^t for t ≤ 0, document 01's stand-in.
@@ -135,18 +135,29 @@ fn bit(gray: bool, k: u64, v: u64) -> u64
     (v >> k) % 2
 }
 
-// The log-sum of those of the 32 values from base on whose bit k is b.
-fn log_sum(values: &[f32], base: usize, gray: bool, k: u64, b: u64) -> f32
-    requires { ⌜ (base + 32 ≤ length (now values)) × (k < 64) ⌝ }
-    ensures { λ r. ⌜ r ≡ logSum (bitOf gray k) b (λ v. getD (now (values .entry)) (base + v) nan) 32 ⌝ }
+// Value v more in the ten log-sums: in the one of each bit that it has.
+fn one_more(values: &[f32], base: usize, gray: bool, v: usize, sums: &mut [f32])
+    requires { ⌜ (base + 32 ≤ length (now values)) × (v < 32) × Summed gray (λ v. getD (now values) (base + v) nan) v (now sums) ⌝ }
+    ensures { λ _. ⌜ Summed gray (λ v. getD (now (values .entry)) (base + v) nan) (v + 1) (now (sums .exit)) ⌝ }
 {
-    let mut sum = -1.0 / 0.0;
-    for v in 0..32usize {
-        if bit(gray, k, v as u64) == b {
-            sum = lse(sum, values[base + v]);
-        }
+    let x = values[base + v];
+    for k in 0..5usize {
+        let at = 2 * k + (bit(gray, k as u64, v as u64) as usize);
+        sums[at] = lse(sums[at], x);
     }
-    sum
+}
+
+// The ten log-sums of the 32 values from base on, from v = 0 up. They go side by side: each waits long for its own last one.
+fn log_sums(values: &[f32], base: usize, gray: bool) -> [f32; 10]
+    requires { ⌜ base + 32 ≤ length (now values) ⌝ }
+    ensures { λ r. ⌜ Summed gray (λ v. getD (now (values .entry)) (base + v) nan) 32 r ⌝ }
+{
+    let none = -1.0 / 0.0;
+    let mut sums = [none; 10];
+    for v in 0..32usize {
+        one_more(values, base, gray, v, &mut sums);
+    }
+    sums
 }
 
 // A soft bit held to -12..12.
@@ -162,12 +173,12 @@ fn hold(x: f32) -> f32
     x
 }
 
-// The soft bit of bit k of the 32 values from base on.
-fn soft_bit(values: &[f32], base: usize, gray: bool, k: u64) -> f32
-    requires { ⌜ (base + 32 ≤ length (now values)) × (k < 64) ⌝ }
-    ensures { λ r. ⌜ r ≡ softBit gray k (λ v. getD (now (values .entry)) (base + v) nan) ⌝ }
+// The soft bit of bit k, by the log-sums.
+fn soft_bit(sums: &[f32; 10], k: usize) -> f32
+    requires { ⌜ k < 5 ⌝ }
+    ensures { λ r. ⌜ r ≡ softFrom (now (sums .entry)) k ⌝ }
 {
-    hold(log_sum(values, base, gray, k, 0) - log_sum(values, base, gray, k, 1))
+    hold(sums[2 * k] - sums[2 * k + 1])
 }
 
 // The five soft bits of symbol i, of the Gray bits of its values.
@@ -176,8 +187,9 @@ fn put_bits(values: &[f32], slots: &mut [f32], i: usize)
     ensures { λ r. ⌜ Stored nan 5 (5 * i) (λ k. softBit true k (λ v. getD (now (values .entry)) v nan)) (now (slots .entry)) (now (slots .exit)) ⌝ }
 {
     let base = 5 * i;
+    let sums = log_sums(values, 0, true);
     for k in 0..5usize {
-        slots[base + k] = soft_bit(values, 0, true, k as u64);
+        slots[base + k] = soft_bit(&sums, k);
     }
 }
 
@@ -208,9 +220,12 @@ fn plain_bits(metrics: &[f32], soft: &mut [f32])
     requires { ⌜ 32 * symbolsOf (length (now soft)) ≤ length (now metrics) ⌝ }
     ensures { λ r. ⌜ now (soft .exit) ≡ tabled (length (now (soft .entry))) (rows 5 (λ i k. softBit false (4 - k) (λ v. getD (now (metrics .entry)) (32 * i + v) nan))) ⌝ }
 {
+    let mut sums = [0.0f32; 10];
     for p in 0..soft.len() {
-        let k = (4 - p % 5) as u64;
-        soft[p] = soft_bit(metrics, 32 * (p / 5), false, k);
+        if p % 5 == 0 {
+            sums = log_sums(metrics, 32 * (p / 5), false);
+        }
+        soft[p] = soft_bit(&sums, 4 - p % 5);
     }
 }
 

@@ -9,6 +9,7 @@ use borrow.Author.Needs.{needs}
 use lib.Ieee.{Float, nan}
 use lib.ListN.{getD}
 use Rattle.soft.proofs.Same.{soft-same}
+use Rattle.soft.proofs.Sums.{soft-of}
 use Rattle.soft.specs.Symbol.{softBit}
 use Rattle.util.proofs.Fill.{row-begun, row-more}
 use Rattle.util.specs.Table.{Stored}
@@ -16,14 +17,17 @@ use Rattle.soft.proofs.put_bits.Statement.{statement}
 use Rattle.soft.proofs.put_bits.Tie as tie
 
 abbrev Inv-loop : tie.InvT-loop
-Inv-loop values slots₀ i base k₀ slots k =
+Inv-loop values slots₀ i base sums k₀ slots k =
     (k ≤ 5) × Stored nan k (5 * i) (λ k. softBit true k (λ v. getD values v nan)) slots₀ slots
 
 abbrev μ-loop : tie.MeasureT-loop
-μ-loop values slots₀ i base k₀ slots k = 5 - k
+μ-loop values slots₀ i base sums k₀ slots k = 5 - k
 
 mul-base : tie.Need-mul-base Inv-loop μ-loop
 mul-base c = search needs
+
+log-sums-requires : tie.Need-log-sums-requires Inv-loop μ-loop
+log-sums-requires c κs = search needs
 
 loop-holds : tie.Need-loop-holds Inv-loop μ-loop
 loop-holds c = (omega arith, row-begun nan _ _ _)
@@ -38,7 +42,7 @@ mul-slots : tie.Need-mul-slots Inv-loop μ-loop
 mul-slots c = search needs
 
 slice-write-slots : tie.Need-slice-write-slots Inv-loop μ-loop
-slice-write-slots c = omega (arith, c .before .before .loop .inv .1 .size)
+slice-write-slots c = omega (arith, c .before .before .before .loop .inv .1 .size)
 
 add-k : tie.Need-add-k Inv-loop μ-loop
 add-k c = search needs
@@ -48,11 +52,12 @@ loop-less c = search needs
 
 loop-again : tie.Need-loop-again Inv-loop μ-loop
 loop-again c =
-    let at = c .before .before in
-    let a = at .before .before .before .args in
+    let at = c .before .before .before in
+    let a = at .before .before .before .before .args in
     let x : ℕ → Float = λ v. getD (a .values .now) v nan in
     let k = at .loop .k in
-    let e = c .soft-bit .ensures ∙ soft-same (λ v. getD (a .values .now) (0 + v) nan) x (λ v h. ap x (zero-add v)) true k in
+    let from : ℕ → Float = λ v. getD (a .values .now) (0 + v) nan in
+    let e = c .soft-bit .ensures ∙ soft-of true from _ k (omega arith) (at .before .log-sums .ensures) ∙ soft-same from x (λ v h. ap x (zero-add v)) true k in
     (omega arith, row-more nan k (5 * a .i) (λ k. softBit true k x) (a .slots .now) (at .loop .slots) _ (at .loop .inv .1) (omega arith) e)
 
 same-length : tie.Need-same-length Inv-loop μ-loop
@@ -64,4 +69,4 @@ returns c =
     rw e at (c .before .loop .inv .1)
 
 pub put-bits-spec : {M : Type 1} → statement M
-put-bits-spec = tie.close (tie.spec Inv-loop μ-loop mul-base loop-holds soft-bit-requires add-slots mul-slots slice-write-slots add-k loop-less loop-again same-length returns)
+put-bits-spec = tie.close (tie.spec Inv-loop μ-loop mul-base log-sums-requires loop-holds soft-bit-requires add-slots mul-slots slice-write-slots add-k loop-less loop-again same-length returns)

@@ -1,25 +1,34 @@
--- `soft::soft_bit` meets its contract, by those of its calls. Assumes nothing.
-use mathlib.Core.Path.{ap₂, _∙_}
+-- `soft::soft_bit` meets its contract, by that of its call. Assumes nothing.
 use borrow.Author.Needs.{needs}
-use lib.Ieee.{Float, binary32, sub}
-use Rattle.ieee.specs.Within.{clamp}
-use Rattle.soft.specs.Lse.{num, minus}
-use Rattle.soft.specs.Symbol.{softBit}
 use Rattle.soft.proofs.soft_bit.Statement.{statement}
 use Rattle.soft.proofs.soft_bit.Tie as tie
 
-log-sum-requires : tie.Need-log-sum-requires
-log-sum-requires c κs = search needs
+mul-hold : tie.Need-mul-hold
+mul-hold c = search needs
 
-log-sum-requires-2 : tie.Need-log-sum-requires-2
-log-sum-requires-2 c κs = search needs
+mul-hold-2 : tie.Need-mul-hold-2
+mul-hold-2 c = search needs
+
+element-copy-out-hold : tie.Need-element-copy-out-hold
+element-copy-out-hold c = search needs
+
+mul-hold-3 : tie.Need-mul-hold-3
+mul-hold-3 c = search needs
+
+add-hold : tie.Need-add-hold
+add-hold c = search needs
+
+mul-hold-4 : tie.Need-mul-hold-4
+mul-hold-4 c = search needs
+
+element-copy-out-hold-2 : tie.Need-element-copy-out-hold-2
+element-copy-out-hold-2 c = search needs
 
 hold-requires : tie.Need-hold-requires
 hold-requires c κs = search needs
 
 returns : tie.Need-returns
-unfolding softBit
-returns c = c .hold .ensures ∙ ap₂ (λ (x y : Float). clamp (minus 12) (num 12) (sub binary32 x y)) (c .before .before .log-sum .ensures) (c .before .log-sum2 .ensures)
+returns c = c .hold .ensures
 
 pub soft-bit-spec : {M : Type 1} → statement M
-soft-bit-spec = tie.close (tie.spec log-sum-requires log-sum-requires-2 hold-requires returns)
+soft-bit-spec = tie.close (tie.spec mul-hold mul-hold-2 element-copy-out-hold mul-hold-3 add-hold mul-hold-4 element-copy-out-hold-2 hold-requires returns)
