@@ -11,7 +11,7 @@ ghost use Rattle.ieee.specs.Whole.{plusZero};
 ghost use Rattle.frame.specs.Format.{headerBits};
 ghost use Rattle.trellis.specs.Answer.{Answer, outcomeOf};
 ghost use Rattle.trellis.specs.Terms.{WholeTerms, documentSearch};
-ghost use Rattle.trellis.specs.Demand.{Demand3};
+ghost use Rattle.trellis.specs.Demand.{Demand3, AnyTerms};
 ghost use Rattle.search.specs.Found.{way};
 ghost use Rattle.header.specs.Rows.{Row, Rows};
 ghost use Rattle.header.specs.Read.{meaning, outcomeIs, answerIs, Room, areas, lengthsRight, headerRead, areaAfter};
@@ -139,7 +139,8 @@ fn room(kind: u8, terms: usize, ends: usize, second: usize, start: usize, decisi
     decisions == n * 256
 }
 
-// Public entry: the header read (document 01, 'A header read'), with demand 3 as `whole`.
+// Public entry: the header read (document 01, 'A header read'), with demand 3 as `whole`, and as `any`
+// what holds of it for every read that is not refused.
 pub fn read_header(
     mode: u8,
     kind: u8,
@@ -155,6 +156,7 @@ pub fn read_header(
     ensures of_start { λ r. ⌜ now (start .exit) ≡ areaAfter (meaning r) plusZero (now (start .entry)) ⌝ }
     ensures of_decisions { λ r. ⌜ now (decisions .exit) ≡ areaAfter (meaning r) 0 (now (decisions .entry)) ⌝ }
     ensures whole { λ r. ⌜ ((ints : ℕ → ℤ) → WholeTerms 800 (now (terms .entry)) ints → (a : HeaderAnswer) → r ≡ HeaderRead.Answer a → Demand3 mode kind ints (now (terms .entry)) (answerIs a)) ⌝ }
+    ensures any { λ r. ⌜ ((a : HeaderAnswer) → r ≡ HeaderRead.Answer a → AnyTerms mode kind (now (terms .entry)) (answerIs a)) ⌝ }
 {
     if !frame::is_named(mode, kind) {
         return HeaderRead::Refused(1);

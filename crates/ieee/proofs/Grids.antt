@@ -26,7 +26,7 @@ use Rattle.ieee.proofs.Rounds.{Rounds, add-rounds, neg-plus}
 use Rattle.ieee.proofs.Sizes.{neg-same, round-size, round-least, mul-round, div-round, div-least, run-upto}
 
 -- ---- where multiples come from
-pow-le : (a b : ℕ) → 2 ^ a ≤ 2 ^ b → a ≤ b
+pub pow-le : (a b : ℕ) → 2 ^ a ≤ 2 ^ b → a ≤ b
 pow-le a b h = by-test b a (λ (l : b < a). absurd (lt-irrefl (2 ^ b) (lt-of-lt-of-le (pow-lt l) h))) (λ (l : a ≤ b). l)
 
 by-exponent : (s : Bool) (m : ℕ) (e : ℤ) (j : ℕ) → down e ≤ 2 ^ j → Grid j (fin s m e)
@@ -89,11 +89,11 @@ least-grid {j} {x} g h = record { finite = g .finite; size = go (g .count) (g .s
 pairs : (a b c d : ℕ) → a * b * (c * d) ≡ a * c * (b * d)
 pairs a b c d = simp (mul-assoc, mul-left-comm)
 
-both : (p d q e a b w : ℕ) → p * w ≡ a * d → q * w ≡ b * e → (p * e + q * d) * w ≡ (a + b) * (d * e)
+pub both : (p d q e a b w : ℕ) → p * w ≡ a * d → q * w ≡ b * e → (p * e + q * d) * w ≡ (a + b) * (d * e)
 both p d q e a b w h k = omega (arith, ap (λ (z : ℕ). z * e) h, ap (λ (z : ℕ). z * d) k)
 
 -- d = p - q
-less-part : (p q d c w P Q : ℕ) → p ≡ q + d → p * w ≡ P * c → q * w ≡ Q * c → d * w ≡ (P - Q) * c
+pub less-part : (p q d c w P Q : ℕ) → p ≡ q + d → p * w ≡ P * c → q * w ≡ Q * c → d * w ≡ (P - Q) * c
 less-part p q d c w P Q e g h = ap (λ (z : ℕ). z * w) (gone p q d e) ∙ sym (sub-mul p q w) ∙ ap₂ _-_ g h ∙ sub-mul P Q c
   where
     gone : (p q d : ℕ) → p ≡ q + d → d ≡ p - q

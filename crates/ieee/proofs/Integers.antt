@@ -1,12 +1,12 @@
 -- Integers as a sign and a size: sums, negation, order and size by `signed`. Assumes nothing.
-use mathlib.Core.Path.{_≡_, refl, sym, ap, _∙_, subst}
-use Prim.Native.Nat.{ℕ, zero, suc, _+_, _-_, _≤_, _<_}
+use mathlib.Core.Path.{_≡_, refl, sym, ap, ap₂, _∙_, subst}
+use Prim.Native.Nat.{ℕ, zero, suc, _+_, _-_, _*_, _≤_, _<_}
 use mathlib.Core.Logic.{inl, inr}
-use native.Mathlib.Nat.{le-refl, le-trans, le-of-eq, le-of-lt, eq-or-lt-of-le, zero-add}
+use native.Mathlib.Nat.{le-refl, le-trans, le-of-eq, le-of-lt, eq-or-lt-of-le, zero-add, mul-zero}
 use native.Mathlib.Omega.{arith}
 use mathlib.Core.Bool.{Bool, true, false, not, cond}
 use lib.Dec.{T, ltb, ltb→lt, lt→ltb, nltb→le, leb·suc-zero, leb·suc-suc}
-use lib.IntN.{ℤ, pos, negsuc, negℤ, natAbs, _+ℤ_, _-ℤ_, negℤ-+ℤ, +ℤ-comm}
+use lib.IntN.{ℤ, pos, negsuc, negℤ, natAbs, _+ℤ_, _-ℤ_, _*ℤ_, negℤ-+ℤ, +ℤ-comm, +ℤ-assoc, sucℤ-*ℤ, zero-*ℤ, *ℤ-zero, pos-*ℤ-pos, pos-*ℤ-negsuc}
 use lib.Signed.{ltZ}
 use lib.Ieee.{below}
 use lib.Ieee.Bits.{is-true}
@@ -115,6 +115,30 @@ abs-add (negsuc a) (negsuc b) = abs-sum true true (suc a) (suc b)
 
 pub abs-sub : (x y : ℤ) → natAbs (x -ℤ y) ≤ natAbs x + natAbs y
 abs-sub x y = le-trans (abs-add x (negℤ y)) (le-of-eq (ap (λ (n : ℕ). natAbs x + n) (abs-neg y)))
+
+-- ---- sums of sums, and w times a number
+pub +ℤ-swap : (a c b d : ℤ) → (a +ℤ c) +ℤ (b +ℤ d) ≡ (a +ℤ b) +ℤ (c +ℤ d)
++ℤ-swap a c b d =
+    +ℤ-assoc a c (b +ℤ d)
+    ∙ ap (λ (z : ℤ). a +ℤ z) (sym (+ℤ-assoc c b d) ∙ ap (λ (z : ℤ). z +ℤ d) (+ℤ-comm c b) ∙ +ℤ-assoc b c d)
+    ∙ sym (+ℤ-assoc a b (c +ℤ d))
+
+pub times-add : (w : ℕ) (a b : ℤ) → pos w *ℤ (a +ℤ b) ≡ pos w *ℤ a +ℤ pos w *ℤ b
+times-add zero a b = zero-*ℤ (a +ℤ b) ∙ sym (ap₂ _+ℤ_ (zero-*ℤ a) (zero-*ℤ b))
+times-add (suc w) a b =
+    sucℤ-*ℤ (pos w) (a +ℤ b)
+    ∙ ap (λ (z : ℤ). z +ℤ (a +ℤ b)) (times-add w a b)
+    ∙ +ℤ-swap (pos w *ℤ a) (pos w *ℤ b) a b
+    ∙ sym (ap₂ _+ℤ_ (sucℤ-*ℤ (pos w) a) (sucℤ-*ℤ (pos w) b))
+
+pub times-signed : (w : ℕ) (s : Bool) (k : ℕ) → pos w *ℤ signed s k ≡ signed s (w * k)
+times-signed w false k = pos-*ℤ-pos w k
+times-signed w true zero = *ℤ-zero (pos w) ∙ ap (signed true) (sym (mul-zero w))
+times-signed w true (suc k) = pos-*ℤ-negsuc w k
+
+pub abs-times : (w : ℕ) (z : ℤ) → natAbs (pos w *ℤ z) ≡ w * natAbs z
+abs-times w (pos n) = ap natAbs (pos-*ℤ-pos w n)
+abs-times w (negsuc n) = ap natAbs (pos-*ℤ-negsuc w n) ∙ abs-signed true (w * suc n)
 
 -- ---- order
 pub below-is : (s t : Bool) (a b : ℕ) → below s a t b ≡ ltZ (signed s a) (signed t b)

@@ -1,6 +1,6 @@
 -- What f32 and f64 arithmetic is allowed to be believed: laws over the toolchain's account of IEEE 754 (lib.Ieee), for either format f and for any bound. prec f is 24 for f32 and 53 for f64.
 -- The words are in specs/: `Whole x z` (the float x is the integer z), `run` (a sum from the left), `Within l h x`, `larger`, `clamp`, `Upto n k x` (|x| ≤ n * 2 ^ k), `Least b x` (2 ^ -b ≤ |x|),
--- `Grid j x` (a multiple of 2 ^ -j), `Score f n k x` (a value of f, bounded, not -0.0). `Samples` has the laws at work. Each law by its module, with its statement and what it is for:
+-- `Grid j x` (a multiple of 2 ^ -j), `Score f n k x` (a value of f, bounded, not -0.0), `Units j x z` (z * 2 ^ -j, exactly), `Near j d x z` (but for d units). `Samples` has the laws at work. Each law by its module, with its statement and what it is for:
 --
 -- 1. Whole numbers are exact
 -- Sums.add-whole : (f : Format) {x y : Float} {a b : ℤ} → Whole x a → Whole y b → natAbs (a +ℤ b) ≤ 2 ^ prec f → Whole (add f x y) (a +ℤ b)
@@ -208,6 +208,30 @@
 -- Values.ofInt-allowed : (f : Format) (z : ℤ) → natAbs z ≤ 2 ^ prec f → T (inFloat f z)
 --     what the machine asks of a cast
 --
+-- 5. Exact values (in units of 2 ^ -j, for f32 of 2 ^ -149: every finite value is a whole number of them)
+-- Units.add-near : (f : Format) (h : ℕ) {x y : Float} {a b : ℤ} → Units (low f) x a → Units (low f) y b → natAbs (a +ℤ b) ≤ 2 ^ (prec f + suc h) → T (finite (add f x y)) → Near (low f) (2 ^ h) (add f x y) (a +ℤ b)
+--     THE ROUNDING LAW: a sum within ±2 ^ k is off by at most 2 ^ (k - 25) in f32, half a unit in the last place there; h = k + 124
+-- Units.near-add : (f : Format) (h : ℕ) {m n k c d : ℕ} {x y : Float} {a b : ℤ} → Upto m k x → Upto n k y → Near (low f) c x a → Near (low f) d y b → m + n < 2 ^ prec f → k + prec f ≤ emax f → (m + n) * 2 ^ (k + low f) ≤ 2 ^ (prec f + suc h) → Near (low f) (c + d + 2 ^ h) (add f x y) (a +ℤ b)
+--     a sum of values that are off already: what each is off, and what the sum loses
+-- Units.run-near : (f : Format) (k h d : ℕ) (x : ℕ → Float) (z : ℕ → ℤ) (n : ℕ) → ((i : ℕ) → i < n → Upto 1 k (x i)) → ((i : ℕ) → i < n → Near (low f) d (x i) (z i)) → n < 2 ^ prec f → k + prec f ≤ emax f → n * 2 ^ (k + low f) ≤ 2 ^ (prec f + suc h) → Near (low f) (n * (d + 2 ^ h)) (run (add f) plusZero x n) (run _+ℤ_ (pos 0) z n)
+--     an n-step sum from 0.0 loses as much at each step: a metric, a walk
+-- Units.near-units : {j : ℕ} {x : Float} {z : ℤ} → Units j x z → Near j 0 x z
+--     a value is off by nothing from itself
+-- Units.near-wider : {j c : ℕ} {x : Float} {z : ℤ} (d : ℕ) → Near j c x z → c ≤ d → Near j d x z
+--     the room may be widened
+-- Units.lt-units : {j : ℕ} {x y : Float} {a b : ℤ} → Units j x a → Units j y b → lt x y ≡ ltZ a b
+--     floats are in the order of their units: from f32 scores to exact ones
+-- Units.units-once : {j : ℕ} {x : Float} {a b : ℤ} → Units j x a → Units j x b → a ≡ b
+--     a float is one number of units at most
+-- Units.units-grid : {j : ℕ} {x : Float} → Grid j x → Units j x (inUnits j x)
+--     a multiple of 2 ^ -j is a number of units, `inUnits`; `grid-fits` gives it for every finite value of the format
+-- Units.units-whole : (j : ℕ) {x : Float} {z : ℤ} → Whole x z → Units j x (pos (2 ^ j) *ℤ z)
+--     a whole number is 2 ^ j times as many
+-- Units.units-size : {n k j : ℕ} {x : Float} {z : ℤ} → Upto n k x → Units j x z → natAbs z ≤ n * 2 ^ (k + j)
+--     a bounded float is a bounded number of units
+-- Units.upto-units : {j : ℕ} {x : Float} {z : ℤ} (n k : ℕ) → Units j x z → natAbs z ≤ n * 2 ^ (k + j) → Upto n k x
+--     and back: accepted terms
+--
 -- `Signs` has the sign of a rounded value, for the others. Assumes nothing.
 pub mod Integers
 pub mod Signs
@@ -219,5 +243,6 @@ pub mod Sizes
 pub mod Grids
 pub mod Zeros
 pub mod Values
+pub mod Units
 pub mod Folds
 pub mod Samples

@@ -77,10 +77,10 @@ sum-whole f true false a b c C h = apart f false (ltb (b * c) (a * c)) a b c C h
 
 -- ---- add, sub, neg
 -- one more factor on a whole number's equation
-left : (x a c d : ℕ) → x ≡ a * c → x * d ≡ a * (c * d)
+pub left : (x a c d : ℕ) → x ≡ a * c → x * d ≡ a * (c * d)
 left x a c d e = ap (λ (n : ℕ). n * d) e ∙ mul-assoc a c d
 
-right : (x a c d : ℕ) → x ≡ a * d → x * c ≡ a * (c * d)
+pub right : (x a c d : ℕ) → x ≡ a * d → x * c ≡ a * (c * d)
 right x a c d e = ap (λ (n : ℕ). n * c) e ∙ mul-right-comm a d c ∙ mul-assoc a c d
 
 pub add-whole : (f : Format) {x y : Float} {a b : ℤ} → Whole x a → Whole y b → natAbs (a +ℤ b) ≤ 2 ^ prec f → Whole (add f x y) (a +ℤ b)
@@ -119,7 +119,7 @@ ltb-scale a b c C =
     bool-ext (ltb (a * c) (b * c)) (ltb a b) (λ t. lt→ltb a b (lt-of-mul-lt-mul-right c (ltb→lt (a * c) (b * c) t)))
     (λ t. lt→ltb (a * c) (b * c) (mul-lt-mul-of-pos-right (ltb→lt a b t) C))
 
-below-scale : (s t : Bool) (a b c : ℕ) → 0 < c → below s (a * c) t (b * c) ≡ below s a t b
+pub below-scale : (s t : Bool) (a b c : ℕ) → 0 < c → below s (a * c) t (b * c) ≡ below s a t b
 below-scale false false a b c C = ltb-scale a b c C
 below-scale false true a b c C = refl
 below-scale true false a b c C = ap₂ ltb (sym (zero-mul c)) (sym (add-mul a b c)) ∙ ltb-scale 0 (a + b) c C

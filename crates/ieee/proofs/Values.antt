@@ -1,23 +1,26 @@
 -- Equal floats of a format are one value, but for the two zeros. So a whole number that is not -0.0 is the integer's own float, `ofInt f z`, and sums that start from one are again such.
 -- `ofInt f z` is also what a cast of an integer gives. Assumes nothing.
-use mathlib.Core.Path.{_≡_, refl, sym, ap, _∙_, subst}
-use Prim.Native.Nat.{ℕ, suc, _+_, _-_, _*_, _/_, _^_, _≤_}
-use native.Mathlib.Nat.{mul-one, mul-right-comm, zero-lt-suc}
+use mathlib.Core.Path.{_≡_, refl, sym, ap, ap₂, _∙_, subst}
+use Prim.Native.Nat.{ℕ, zero, suc, _+_, _-_, _*_, _/_, _%_, _^_, _≤_, _<_}
+use native.Mathlib.Nat.{mul-one, mul-assoc, mul-right-comm, zero-lt-suc, mul-lt-mul-of-pos-right, lt-of-mul-lt-mul-right}
 use native.Mathlib.Omega.{arith}
-use mathlib.Core.Bool.{Bool, true, false, not, _||_, cond, Bool·beq, true≢false}
-use lib.Dec.{T, eqb, leb, ltb, eqb→eq, le→leb, lt→ltb, T-not, not-T}
+use mathlib.Core.Bool.{Bool, true, false, not, _&&_, _||_, cond, Bool·beq, true≢false}
+use lib.Dec.{T, eqb, leb, ltb, eqb→eq, le→leb, leb→le, lt→ltb, ltb→lt, T-not, not-T}
+use lib.Pow.{pow-add, pow-pos}
 use lib.IntN.{ℤ, pos, negsuc, natAbs, _+ℤ_, _-ℤ_}
 use lib.Signed.{ltZ, leZ, ≤ℤ-refl}
-use lib.Ieee.{Float, nan, inf, fin, Format, prec, low, up, down, size, hid, top, round, add, sub, ofInt, ofBits, toBits, eq, lt, le, fits, inFloat}
+use lib.Ieee.{Float, nan, inf, fin, Format, prec, emax, low, up, down, size, hid, top, round, sum, add, sub, neg, ofInt, ofBits, toBits, eq, lt, le, fits, inFloat}
 use lib.Ieee.Bits.{ofBits-toBits}
-use lib.Ieee.Fits.{and-l, and-r, down-pos, add-fits, sub-fits, ofInt-fits}
+use lib.Ieee.Exact.{HasValue, round-exact}
+use lib.Ieee.Fits.{and-l, and-r, down-pos, round-fits, add-fits, sub-fits, ofInt-fits}
+use lib.Ieee.Scale.{finite}
 use lib.Ieee.Nearest.{div-same}
 use lib.Ieee.Back.{round-whole}
-use Rattle.ieee.specs.Whole.{isZero, Whole}
+use Rattle.ieee.specs.Whole.{plusZero, isZero, Whole}
 use Rattle.ieee.specs.Size.{Grid}
 use Rattle.ieee.proofs.Order.{le-le→eq}
 use Rattle.ieee.proofs.Sums.{of-value, add-whole, sub-whole, lt-whole, le-whole}
-use Rattle.ieee.proofs.Grids.{grid-whole, grid-finer}
+use Rattle.ieee.proofs.Grids.{pow-le, grid-whole, grid-finer}
 use Rattle.ieee.proofs.Zeros.{beq-is, is-minus, round-zero, add-minus-zero, sub-minus-zero}
 
 -- ---- equal values
@@ -30,6 +33,56 @@ bits-of f s m e n d h =
 
 one-value : (f : Format) (s : Bool) (m : ℕ) (e : ℤ) (n : ℕ) (d : ℤ) → T (fits f (fin s m e)) → T (fits f (fin s n d)) → m * up e * down d ≡ n * up d * down e → fin s m e ≡ fin s n d
 one-value f s m e n d p q h = sym (ofBits-toBits f (fin s m e) p) ∙ ap (ofBits f) (bits-of f s m e n d h) ∙ ofBits-toBits f (fin s n d) q
+
+-- ---- rounding a value of the format changes nothing
+same-value : (f : Format) (s : Bool) (m : ℕ) (e : ℤ) (x : Float) → T (fits f x) → T (fits f (fin s m e)) → HasValue x s (m * up e) (down e) → x ≡ fin s m e
+same-value f s m e nan p q v = absurd v
+same-value f s m e (inf t) p q v = absurd v
+same-value f s m e (fin t n d) p q v =
+    let r = ap (λ (b : Bool). fin b n d) (v .0) in r ∙ one-value f s n d m e (subst (λ (x : Float). T (fits f x)) r p) q (v .1)
+
+in-units : (m : ℕ) (e : ℤ) (l : ℕ) → down e ≤ 2 ^ l → (j : ℕ) × (m * up e * 2 ^ l ≡ m * 2 ^ j * down e)
+in-units m (pos k) l h = (k + l, mul-assoc m (2 ^ k) (2 ^ l) ∙ ap (λ (z : ℕ). m * z) (sym (pow-add 2 k l)) ∙ sym (mul-one (m * 2 ^ (k + l))))
+in-units m (negsuc k) l h =
+    let back : 2 ^ l ≡ 2 ^ (l - suc k) * 2 ^ suc k = ap (λ (z : ℕ). 2 ^ z) (omega (arith, pow-le (suc k) l h)) ∙ pow-add 2 (l - suc k) (suc k) in
+    (l - suc k, ap₂ _*_ (mul-one m) back ∙ sym (mul-assoc m (2 ^ (l - suc k)) (2 ^ suc k)))
+
+pub round-back : (f : Format) (s : Bool) (m : ℕ) (e : ℤ) → T (fits f (fin s m e)) → round f s (m * up e) (down e) ≡ fin s m e
+unfolding fits
+round-back f s zero e t =
+    same-value f s zero e (round f s (zero * up e) (down e)) (round-fits f s (zero * up e) (down e)) t
+    (round-exact f s (zero * up e) (down e) 0 0 (down-pos e) (pow-pos (prec f)) (pow-pos (low f + suc (emax f))) (omega arith))
+round-back f s (suc m) e t =
+    let A = eqb (suc m % 2) 1 in
+    let B = ltb (suc m) (2 ^ prec f) in
+    let C = leb (down e) (2 ^ low f) in
+    let D = ltb (suc m * up e) (2 ^ suc (emax f) * down e) in
+    let small = ltb→lt (suc m) (2 ^ prec f) (and-r A B (and-l (A && B) C (and-l (A && B && C) D t))) in
+    let (j, is) = in-units (suc m) e (low f) (leb→le (down e) (2 ^ low f) (and-r (A && B) C (and-l (A && B && C) D t))) in
+    let least = ltb→lt (suc m * up e) (2 ^ suc (emax f) * down e) (and-r (A && B && C) D t) in
+    same-value f s (suc m) e (round f s (suc m * up e) (down e)) (round-fits f s (suc m * up e) (down e)) t
+    (round-exact f s (suc m * up e) (down e) (suc m) j (down-pos e) small
+    (subst (λ (z : ℕ). suc m * 2 ^ j < z) (sym (pow-add 2 (low f) (suc (emax f)))) (below (suc m * up e) (down e) (suc m * 2 ^ j) (2 ^ low f) (2 ^ suc (emax f)) (pow-pos (low f)) is least)) is)
+  where
+    below : (a d q l w : ℕ) → 0 < l → a * l ≡ q * d → a < w * d → q < l * w
+    below a d q l w L e h = lt-of-mul-lt-mul-right d (omega (arith, e, mul-lt-mul-of-pos-right h L))
+
+-- x - 0.0 is x
+less-none : (f : Format) (s : Bool) (a b c : ℕ) → b ≡ 0 → sum f s a true b c ≡ round f s a c
+unfolding sum
+less-none f true a b c e = ap (λ (k : ℕ). round f true k c) (omega arith)
+less-none f false a b c e = go (ltb a b) (ltb→lt a b)
+  where
+    go : (t : Bool) → (T t → a < b) → cond t (round f true (b - a) c) (round f false (a - b) c) ≡ round f false a c
+    go true h = let l : a < b = h tt in absurd (omega arith)
+    go false h = ap (λ (k : ℕ). round f false k c) (omega arith)
+
+pub sub-zero : (f : Format) (x : Float) → T (fits f x) → T (finite x) → sub f x plusZero ≡ x
+unfolding sub neg add
+sub-zero f nan t p = absurd p
+sub-zero f (inf s) t p = absurd p
+sub-zero f (fin s m e) t p =
+    less-none f s (m * up e * 1) (0 * 1 * down e) (down e * 1) (omega arith) ∙ ap₂ (round f s) (mul-one (m * up e)) (mul-one (down e)) ∙ round-back f s m e t
 
 -- equal floats of a format that are not -0.0 are one value
 pub equal : (f : Format) (x y : Float) → T (fits f x) → T (fits f y) → T (not (isZero true x)) → T (not (isZero true y)) → T (eq x y) → x ≡ y

@@ -1,3 +1,4 @@
 pub mod Whole
 pub mod Within
 pub mod Size
+pub mod Units

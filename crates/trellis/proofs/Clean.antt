@@ -1,20 +1,21 @@
 -- The premise of (iv) at full size: where in every symbol the term of value 0's bin is 1 and every other term 0, the closed word 0 scores more
--- than every other walk, in either mode and for every kind. So it is handed out, by closing in the first pass. Assumes nothing.
+-- than every other walk, in either mode and for every kind, over ℤ and in f32, and exactly by more than rounding loses. So it is handed out, by
+-- closing in the first pass. Assumes nothing.
 use Prim.Native.Nat.{ℕ, zero, suc, _+_, _*_, _-_, _/_, _%_, _^_, _≤_, _<_}
-use mathlib.Core.Path.{_≡_, refl, sym, ap, ap₂, _∙_, subst₂}
+use mathlib.Core.Path.{_≡_, refl, sym, ap, ap₂, _∙_, subst, subst₂}
 use mathlib.Core.Bool.{Bool, true, false}
 use mathlib.Core.List.{List}
 use mathlib.Core.Logic.{_⊎_, inl, inr}
-use native.Mathlib.Nat.{zero-div}
+use native.Mathlib.Nat.{zero-div, le-trans, mul-le-mul-right}
 use native.Mathlib.Decide.{ℕ-discrete}
 use native.Mathlib.Omega.{arith}
 use borrow.Author.Tests.{eq-eqb, ne-eqb}
 use lib.Count.{onesIn}
-use lib.Dec.{eqb, lit<, lit≤, lt→ltb}
-use lib.IntN.{ℤ, pos, natAbs, _+ℤ_, +ℤ-idl, +ℤ-idr}
+use lib.Dec.{T, eqb, lit<, lit≤, lt→ltb}
+use lib.IntN.{ℤ, pos, natAbs, _+ℤ_, _*ℤ_, +ℤ-idl, +ℤ-idr}
 use lib.Pow.{pow-pos}
 use lib.Signed.{_<ℤ_}
-use lib.Ieee.{Float}
+use lib.Ieee.{Float, lt}
 use Rattle.ieee.specs.Whole.{run}
 use Rattle.util.specs.Choose.{choose}
 use Rattle.frame.specs.Format.{formatOf, headerBits}
@@ -26,11 +27,12 @@ use Rattle.conv.proofs.Linear.{label-lt, computed, label-computed}
 use Rattle.model.specs.Metric.{termAt, metricOf}
 use Rattle.trellis.specs.Scale.{sum}
 use Rattle.trellis.specs.Answer.{OutInFirstPass}
-use Rattle.trellis.specs.Numbers.{whole}
-use Rattle.trellis.specs.Terms.{placeIn, metric, documentSearch}
+use Rattle.trellis.specs.Numbers.{single, whole}
+use Rattle.trellis.specs.Terms.{placeIn, metric, lent, documentSearch, WholeTerms, UnitTerms}
 use Rattle.trellis.specs.Demand.{walk, closed, Another}
-use Rattle.trellis.proofs.Demand.{demand-3}
+use Rattle.trellis.proofs.Demand.{demand-3, walks-less}
 use Rattle.trellis.proofs.Guards.{values, listOf-length, any-whole}
+use Rattle.trellis.proofs.Scaled.{times, walk-times, whole-units}
 use Rattle.trellis.proofs.Silent.{only-zeros}
 
 -- 1 where two numbers agree, else 0
@@ -42,11 +44,11 @@ one-if x y = choose (eqb x y) (pos 1) (pos 0)
 unfoldable pub clean : ℕ → ℕ → ℤ
 clean bins i = one-if (i % 260) (104 + placeIn bins (i / 260) 0)
 
-clean-small : (bins i : ℕ) → natAbs (clean bins i) ≤ 800
+clean-small : (bins i : ℕ) → natAbs (clean bins i) ≤ 1
 unfolding clean
 clean-small bins i = go (eqb (i % 260) (104 + placeIn bins (i / 260) 0))
   where
-    go : (c : Bool) → natAbs (choose c (pos 1) (pos 0)) ≤ 800
+    go : (c : Bool) → natAbs (choose c (pos 1) (pos 0)) ≤ 1
     go true = lit≤ tt
     go false = lit≤ tt
 
@@ -186,29 +188,58 @@ module _ (mode kind : ℕ) where
       go (yes e) = e
       go (no e) = let z : _≡_ {A = ℕ} 1 0 = ap natAbs (sym (h j l) ∙ earned-none p v j e) in absurd (omega arith)
 
-  closed-zero : closed mode kind ints 0 ≡ pos (headerBits kind)
+  closed-zero : closed whole mode kind ints 0 ≡ pos (headerBits kind)
   unfolding earned
   closed-zero =
       let start = made (bit 0) (headerBits kind) 14 in
       ones-sum (earned start 0) (headerBits kind)
       (λ j h. earned-one start 0 j (ap labelOf (ap₂ register (state-none start j (made-none (headerBits kind) 14)) (bit-none j)) ∙ label-none))
 
-  -- word 0 beats every other walk
-  pub zero-beats : (p v : ℕ) → p < 16384 → v < 2 ^ headerBits kind → Another mode kind ints 0 p v
-      → walk mode kind ints p v <ℤ closed mode kind ints 0
-  unfolding earned Below
-  zero-beats p v hp hv other = go (ones-or-less (earned p v) (either p v) (headerBits kind))
+  -- word 0 beats every other walk, which misses one step at least
+  misses : (p v : ℕ) → p < 16384 → v < 2 ^ headerBits kind → Another kind 0 p v → Below (earned p v) (headerBits kind)
+  misses p v hp hv other = go (ones-or-less (earned p v) (either p v) (headerBits kind))
     where
-      go : ((j : ℕ) → j < headerBits kind → earned p v j ≡ pos 1) ⊎ Below (earned p v) (headerBits kind)
-          → walk mode kind ints p v <ℤ closed mode kind ints 0
+      go : ((j : ℕ) → j < headerBits kind → earned p v j ≡ pos 1) ⊎ Below (earned p v) (headerBits kind) → Below (earned p v) (headerBits kind)
       go (inl all) =
           let z = only-zeros p v (headerBits kind) hp (omega (arith, header-least kind)) (all-silent p v all) hv in
           absurd (other (z .0 ∙ sym (made-none (headerBits kind) 14), z .1))
-      go (inr (k, l, e)) = subst₂ _<ℤ_ (sym e) (sym closed-zero) (record { lt = lt→ltb k (headerBits kind) l })
+      go (inr b) = b
+
+  pub zero-beats : (p v : ℕ) → p < 16384 → v < 2 ^ headerBits kind → Another kind 0 p v
+      → walk whole mode kind ints p v <ℤ closed whole mode kind ints 0
+  unfolding earned Below
+  zero-beats p v hp hv other =
+      let (k, l, e) = misses p v hp hv other in
+      subst₂ _<ℤ_ (sym e) (sym closed-zero) (record { lt = lt→ltb k (headerBits kind) l })
+
+  clean-whole : WholeTerms 800 terms ints
+  clean-whole = any-whole ints (260 * headerBits kind) (λ i l. le-trans (clean-small (formatOf mode .bins) i) (lit≤ tt))
 
   -- so the read hands it out
   pub zero-out : (documentSearch mode kind terms .word ≡ 0) × OutInFirstPass (documentSearch mode kind terms .outcome)
   zero-out =
-      demand-3 mode kind terms ints (listOf-length _ (260 * headerBits kind))
-      (any-whole ints (260 * headerBits kind) (λ i l. clean-small (formatOf mode .bins) i))
-      .unique 0 (pow-pos (headerBits kind)) zero-beats
+      demand-3 mode kind terms ints (listOf-length _ (260 * headerBits kind)) clean-whole .unique 0 (pow-pos (headerBits kind)) zero-beats
+
+  -- it does so in f32 too: the premise of `AnyTerms`
+  pub zero-beats-single : (p v : ℕ) → p < 16384 → v < 2 ^ headerBits kind → Another kind 0 p v
+      → T (lt (walk single mode kind (lent terms) p v) (closed single mode kind (lent terms) 0))
+  zero-beats-single p v hp hv other =
+      subst T (sym (walks-less mode kind terms ints (listOf-length _ (260 * headerBits kind)) clean-whole p v (made (bit 0) (headerBits kind) 14) 0))
+      (zero-beats p v hp hv other .lt)
+
+  -- and by so much that no rounding could hide it: the premise of `NearExact`, with a = 0
+  pub clean-units : UnitTerms 0 terms (times (2 ^ 149) ints)
+  clean-units = whole-units {b = 1} 0 (record { whole = clean-whole .whole; small = λ i l. clean-small (formatOf mode .bins) i }) (lit≤ tt)
+
+  pub zero-beats-exact : (p v : ℕ) → p < 16384 → v < 2 ^ headerBits kind → Another kind 0 p v
+      → (walk whole mode kind (times (2 ^ 149) ints) p v +ℤ pos (2 ^ (0 + 149 - 8))) <ℤ closed whole mode kind (times (2 ^ 149) ints) 0
+  unfolding earned Below
+  zero-beats-exact p v hp hv other =
+      let (k, l, e) = misses p v hp hv other in
+      subst₂ (λ (x y : ℤ). (x +ℤ pos (2 ^ (0 + 149 - 8))) <ℤ y)
+      (sym (walk-times mode kind (2 ^ 149) ints p v ∙ ap (λ (z : ℤ). pos (2 ^ 149) *ℤ z) e))
+      (sym (walk-times mode kind (2 ^ 149) ints (made (bit 0) (headerBits kind) 14) 0 ∙ ap (λ (z : ℤ). pos (2 ^ 149) *ℤ z) closed-zero))
+      (far k (headerBits kind) (2 ^ 149) (2 ^ (0 + 149 - 8)) l (lit< tt))
+    where
+      far : (k n w d : ℕ) → k < n → d < w → (pos w *ℤ pos k +ℤ pos d) <ℤ (pos w *ℤ pos n)
+      far k n w d h l = record { lt = lt→ltb (w * k + d) (w * n) (omega (arith, mul-le-mul-right w h)) }

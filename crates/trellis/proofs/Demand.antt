@@ -1,19 +1,20 @@
--- DEMAND 3 of document 01's search: the theorems on what a search over the whole numbers hands out, carried to f32 by the simulation.
+-- DEMAND 3 of document 01's search: the theorems on what a search hands out, at the whole numbers, carried to f32 by the simulation.
 -- Assumes nothing.
 use Prim.Native.Nat.{ℕ, zero, suc, _*_, _%_, _^_, _≤_, _<_}
 use mathlib.Core.Path.{_≡_, refl, sym, ap, _∙_, subst}
 use mathlib.Core.List.{List}
 use native.Mathlib.Omega.{arith}
-use lib.Dec.{lit<, lit≤}
+use lib.Dec.{T, lit<, lit≤}
 use lib.ListN.{length}
 use lib.Pow.{pow-pos}
 use lib.IntN.{ℤ}
-use lib.Signed.{_≤ℤ_, _<ℤ_}
-use lib.Ieee.{Float}
+use lib.Signed.{ltZ, _≤ℤ_}
+use lib.Ieee.{Float, lt}
 use Rattle.frame.specs.Format.{headerBits}
 use Rattle.frame.proofs.Air.{header-least}
 use Rattle.conv.specs.Encoder.{made, bit}
 use Rattle.conv.proofs.Closed.{made-below, ends-made, closed}
+use Rattle.trellis.specs.Scale.{Scale}
 use Rattle.trellis.specs.Trellis.{Trellis, walkScore, closedScore}
 use Rattle.trellis.specs.Search.{How, closing, candidate, unclosed, Found, search}
 use Rattle.trellis.specs.Answer.{Outcome, Sure, Kept, Open, outcomeOf, scoreIn, HandedOutAsClosed, OutInFirstPass}
@@ -22,47 +23,49 @@ use Rattle.trellis.specs.Terms.{header, lent, documentSearch, WholeTerms
 use Rattle.trellis.specs.Demand as Demand
 use Rattle.trellis.specs.Demand.{walk, Demand3}
 use Rattle.trellis.proofs.Paths.{bit-lt}
-use Rattle.trellis.proofs.Handed.{Closing, passOf, search-short, search-exact, search-optimal, search-unique}
-use Rattle.trellis.proofs.Integers.{lawful}
+use Rattle.trellis.proofs.Best.{Ranked}
+use Rattle.trellis.proofs.Handed.{Closing, Group, search-short, search-exact, first-exact, search-optimal, search-unique}
+use Rattle.trellis.proofs.Integers.{group, ranked}
 use Rattle.trellis.proofs.Alike.{Same, SamePass}
 use Rattle.trellis.proofs.Exact.{Stands, Term, follows-whole}
-use Rattle.trellis.proofs.Metric.{header-pass, header-alike}
+use Rattle.trellis.proofs.Metric.{header-pass, header-alike, walk-alike}
 
--- ---- the search over the whole numbers, with 2 ^ K states and K steps or more
+-- ---- the search over any kind of score, with 2 ^ K states and K steps or more
 
 -- as many states are even, where there are two or more
 states-even : (K : ℕ) → 0 < K → 2 ^ K % 2 ≡ 0
 states-even zero h = absurd (omega arith)
 states-even (suc K) h = omega arith
 
-module _ (K : ℕ) (two : 0 < K) (n : ℕ) (long : K ≤ n) (earn : ℕ → ℕ → ℤ) where
-  abbrev Z : Trellis ℤ
-  Z = record { scale = whole; states = 2 ^ K; steps = n; earn = earn }
-
-  pub short : search Z .word < 2 ^ n
-  short = search-short Z lawful (states-even K two) (pow-pos K)
+module _ {A : Type 0} (S : Scale A) (K : ℕ) (two : 0 < K) (n : ℕ) (long : K ≤ n) (earn : ℕ → ℕ → A) where
+  abbrev Y : Trellis A
+  Y = record { scale = S; states = 2 ^ K; steps = n; earn = earn }
 
   -- a walk that closes starts at the state made of the word's last K bits
-  closing-made : {w : ℕ} {x : ℤ} → Closing Z w x → closedScore Z K w ≡ x
+  closing-made : {w : ℕ} {x : A} → Closing Y w x → closedScore Y K w ≡ x
   closing-made {w} c =
-      ap (λ (p : ℕ). walkScore Z p w) (sym (ends-made (bit w) (bit-lt w) K (c .start) n (c .start-lt) long) ∙ c .closed) ∙ c .earned
+      ap (λ (p : ℕ). walkScore Y p w) (sym (ends-made (bit w) (bit-lt w) K (c .start) n (c .start-lt) long) ∙ c .closed) ∙ c .earned
 
-  pub exact : (search Z .how ≡ unclosed → ⊥) → closedScore Z K (search Z .word) ≡ search Z .score
-  exact out = closing-made (search-exact Z lawful (states-even K two) (pow-pos K) out)
+  pub exact : Group S → (search Y .how ≡ unclosed → ⊥) → closedScore Y K (search Y .word) ≡ search Y .score
+  exact G out = closing-made (search-exact Y G (states-even K two) (pow-pos K) out)
 
-  pub optimal : search Z .how ≡ closing 1 → {p : ℕ} → p < 2 ^ K → (w : ℕ) → walkScore Z p w ≤ℤ search Z .score
-  optimal e h w = search-optimal Z lawful (states-even K two) (pow-pos K) e h w
+  module _ {le : A → A → Type 0} {ok : ℕ → A → Type 0} (L : Ranked Y le ok) where
+    pub exact-first : search Y .how ≡ closing 1 → closedScore Y K (search Y .word) ≡ search Y .score
+    exact-first e = closing-made (first-exact Y L (states-even K two) (pow-pos K) e)
 
-  pub unique : (w : ℕ) → ((p v : ℕ) → p < 2 ^ K → v < 2 ^ n → ((p ≡ made (bit w) n K) × (v ≡ w) → ⊥) → walkScore Z p v <ℤ closedScore Z K w)
-      → (search Z .word ≡ w) × (search Z .how ≡ closing 1)
-  unique w beats =
-      let p-lt = made-below (bit w) (bit-lt w) n K in
-      search-unique Z lawful (states-even K two) (pow-pos K) (made (bit w) n K) w p-lt (closed (bit w) (bit-lt w) K n long)
-      (λ q v hq hv other. beats q v hq hv other .lt)
+    pub optimal : search Y .how ≡ closing 1 → {p : ℕ} → p < 2 ^ K → (w : ℕ) → le (walkScore Y p w) (closedScore Y K (search Y .word))
+    optimal e {p} h w =
+        subst (λ (x : A). le (walkScore Y p w) x) (sym (exact-first e)) (search-optimal Y L (states-even K two) (pow-pos K) e h w)
+
+    pub unique : (w : ℕ) → ((p v : ℕ) → p < 2 ^ K → v < 2 ^ n → ((p ≡ made (bit w) n K) × (v ≡ w) → ⊥) → T (S .gt (closedScore Y K w) (walkScore Y p v)))
+        → (search Y .word ≡ w) × (search Y .how ≡ closing 1)
+    unique w beats =
+        let p-lt = made-below (bit w) (bit-lt w) n K in
+        search-unique Y L (states-even K two) (pow-pos K) (made (bit w) n K) w p-lt (closed (bit w) (bit-lt w) K n long) beats
 
 -- ---- what an outcome says of how its word came
 
-score-is : {A : Type 0} (h : How) (x : A) → scoreIn (outcomeOf h x) ≡ x
+pub score-is : {A : Type 0} (h : How) (x : A) → scoreIn (outcomeOf h x) ≡ x
 score-is (closing k) x = refl
 score-is candidate x = refl
 score-is unclosed x = refl
@@ -72,7 +75,7 @@ passIn (Sure x pass) = pass
 passIn (Kept x) = 0
 passIn (Open x) = 0
 
-first-is : {A : Type 0} (h : How) (x : A) → OutInFirstPass (outcomeOf h x) → h ≡ closing 1
+pub first-is : {A : Type 0} (h : How) (x : A) → OutInFirstPass (outcomeOf h x) → h ≡ closing 1
 first-is (closing k) x (y, e) = ap closing (ap passIn e)
 first-is candidate x (y, e) = let z : _≡_ {A = ℕ} 0 1 = ap passIn e in absurd (omega arith)
 first-is unclosed x (y, e) = let z : _≡_ {A = ℕ} 0 1 = ap passIn e in absurd (omega arith)
@@ -81,6 +84,9 @@ not-open : {A : Type 0} (h : How) (x : A) → HandedOutAsClosed (outcomeOf h x) 
 not-open h x c e = c x (ap (λ (i : How). outcomeOf i x) e)
 
 -- ---- the header read
+
+pub header-long : (kind : ℕ) → 14 ≤ headerBits kind
+header-long kind = omega (arith, header-least kind)
 
 module _ (mode kind : ℕ) (terms : List Float) (ints : ℕ → ℤ) (all : length terms ≡ 260 * headerBits kind) (h : WholeTerms 800 terms ints) where
   abbrev F : Found Float
@@ -102,28 +108,31 @@ module _ (mode kind : ℕ) (terms : List Float) (ints : ℕ → ℤ) (all : leng
   pub same : Same (Stands 3584000) F I
   same = header-alike (follows-whole 3584000 (lit≤ tt)) mode kind 800 (lent terms) ints stand (lit≤ tt)
 
-  long : 14 ≤ headerBits kind
-  long = omega (arith, header-least kind)
+  -- and a walk's f32 score is its whole number: on such terms the premise of `AnyTerms` (a walk is below another) is demand 3's
+  pub walks-less : (p v q w : ℕ) → lt (walk single mode kind (lent terms) p v) (walk single mode kind (lent terms) q w) ≡ ltZ (walk whole mode kind ints p v) (walk whole mode kind ints q w)
+  walks-less p v q w =
+      let stands = walk-alike (follows-whole 3584000 (lit≤ tt)) mode kind 800 (lent terms) ints stand (lit≤ tt) in
+      follows-whole 3584000 (lit≤ tt) .gt (stands q w) (stands p v)
 
   abbrev earnZ : ℕ → ℕ → ℤ
   earnZ = header whole mode kind ints .earn
 
-  closed-score : (F .how ≡ unclosed → ⊥) → Demand.closed mode kind ints (F .word) ≡ I .score
+  closed-score : (F .how ≡ unclosed → ⊥) → Demand.closed whole mode kind ints (F .word) ≡ I .score
   closed-score out =
-      ap (Demand.closed mode kind ints) (same .word) ∙ exact 14 (lit< tt) (headerBits kind) long earnZ (λ e. out (same .how ∙ e))
+      ap (Demand.closed whole mode kind ints) (same .word)
+      ∙ exact whole 14 (lit< tt) (headerBits kind) (header-long kind) earnZ group (λ e. out (same .how ∙ e))
 
   pub demand-3 : Demand3 mode kind ints terms (documentSearch mode kind terms)
   demand-3 =
       record {
-        short = subst (λ (w : ℕ). w < 2 ^ headerBits kind) (sym (same .word)) (short 14 (lit< tt) (headerBits kind) long earnZ);
+        short = search-short (header single mode kind (lent terms));
         given = refl;
         exact = λ c. rw (score-is (F .how) (F .score), closed-score (not-open (F .how) (F .score) c)) (same .score .whole);
-        optimal = λ o p w hp _. let e = first-is (F .how) (F .score) o in
-            subst (λ (x : ℤ). walk mode kind ints p w ≤ℤ x) (sym (closed-score (λ u. late (sym e ∙ u))))
-            (optimal 14 (lit< tt) (headerBits kind) long earnZ (sym (same .how) ∙ e) hp w);
-        unique = λ w _ beats. let u = unique 14 (lit< tt) (headerBits kind) long earnZ w beats in
+        optimal = λ o p w hp _.
+            let e = first-is (F .how) (F .score) o in
+            subst (λ (v : ℕ). walk whole mode kind ints p w ≤ℤ Demand.closed whole mode kind ints v) (sym (same .word))
+            (optimal whole 14 (lit< tt) (headerBits kind) (header-long kind) earnZ ranked (sym (same .how) ∙ e) hp w);
+        unique = λ w _ beats.
+            let u = unique whole 14 (lit< tt) (headerBits kind) (header-long kind) earnZ ranked w (λ p v hp hv other. beats p v hp hv other .lt) in
             (same .word ∙ u .0, (F .score, ap (λ (i : How). outcomeOf i (F .score)) (same .how ∙ u .1)));
       }
-    where
-      late : closing 1 ≡ unclosed → ⊥
-      late e = let z : _≡_ {A = ℕ} 1 0 = ap passOf e in omega arith

@@ -1,6 +1,7 @@
--- No premise of the claim is empty: any whole numbers are terms, there are accepted terms, and on a small code of the header's shape a closed
+-- No premise of the claim is empty: any whole numbers are terms, there are accepted terms, all of them are whole numbers of units, and on a small code of the header's shape a closed
 -- word beats every other walk. Assumes nothing.
-use Prim.Native.Nat.{ℕ, zero, suc, _+_, _*_, _%_, _≤_, _<_}
+use Prim.Native.Nat.{ℕ, zero, suc, _+_, _*_, _%_, _^_, _≤_, _<_}
+use native.Mathlib.Nat.{le-trans, le-of-eq, one-mul}
 use mathlib.Core.Path.{_≡_, refl, ap, subst}
 use mathlib.Core.Bool.{Bool, true, false, _&&_, _||_}
 use mathlib.Core.List.{List, [], _∷_}
@@ -15,13 +16,19 @@ use lib.Ieee.{Float, binary32, nan, fin, ofInt, fits, le}
 use lib.Ieee.Fits.{and-l, and-r}
 use Rattle.ieee.specs.Whole.{Whole, run}
 use Rattle.ieee.specs.Within.{Within}
+use Rattle.ieee.specs.Size.{Upto}
+use Rattle.ieee.specs.Units.{Units}
+use Rattle.ieee.proofs.Sizes.{upto-within}
+use Rattle.ieee.proofs.Grids.{grid-fits}
+use Rattle.ieee.proofs.Units.{inUnits, units-grid, units-size}
 use Rattle.ieee.proofs.Values.{ofInt-whole}
 use Rattle.util.specs.Choose.{choose}
 use Rattle.conv.specs.Encoder.{state, walkRegister, made, bit}
 use Rattle.trellis.specs.Trellis.{Trellis, walkScore, closedScore}
 use Rattle.trellis.specs.Search.{closing, search}
 use Rattle.trellis.specs.Numbers.{whole}
-use Rattle.trellis.specs.Terms.{lent, WholeTerms, Accepted}
+use Rattle.trellis.specs.Terms.{lent, WholeTerms, UnitTerms, Accepted}
+use Rattle.trellis.proofs.Integers.{ranked}
 use Rattle.trellis.proofs.Demand.{unique}
 use Rattle.trellis.proofs.Every.{every, every-at}
 
@@ -69,6 +76,20 @@ zeros-accepted n s = record { held = λ i h. rw (zero-at i h) tt; within = λ i 
     by true = record { from = tt; to = tt }
     by false = record { from = tt; to = tt }
 
+-- every list of f32 values from -2^a to 2^a has its exact values in units of 2^-149
+pub any-units : (a : ℕ) (terms : List Float) → ((i : ℕ) → i < length terms → T (fits binary32 (lent terms i)) × Upto 1 a (lent terms i))
+    → UnitTerms a terms (λ i. inUnits 149 (lent terms i))
+any-units a terms h =
+    record { units = unit; small = λ i l. le-trans (units-size (h i l .1) (unit i l)) (le-of-eq (one-mul (2 ^ (a + 149)))) }
+  where
+    unit : (i : ℕ) → i < length terms → Units 149 (lent terms i) (inUnits 149 (lent terms i))
+    unit i l = units-grid (grid-fits binary32 (lent terms i) (h i l .0) (h i l .1 .finite))
+
+-- so all accepted terms have, and 20 is an a for them
+pub accepted-units : (terms : List Float) → Accepted terms → UnitTerms 20 terms (λ i. inUnits 149 (lent terms i))
+accepted-units terms h =
+    any-units 20 terms (λ i l. (h .held i l, upto-within (record { finite = tt; size = lit≤ tt }) (record { finite = tt; size = lit≤ tt }) (h .within i l)))
+
 -- ---- a closed word that beats every other walk
 
 -- a code of 4 states with generators 7 and 5, 5 steps; at each step the label of the word's own step earns 1, every other nothing
@@ -114,4 +135,4 @@ beats-all p v hp hv other =
 
 pub thirteen-out : (search (smallClean 13) .word ≡ 13) × (search (smallClean 13) .how ≡ closing 1)
 unfolding smallClean
-thirteen-out = unique 2 (lit< tt) 5 (lit≤ tt) (smallClean 13 .earn) 13 beats-all
+thirteen-out = unique whole 2 (lit< tt) 5 (lit≤ tt) (smallClean 13 .earn) ranked 13 (λ p v hp hv other. beats-all p v hp hv other .lt)

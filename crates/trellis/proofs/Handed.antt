@@ -1,5 +1,6 @@
--- What the search hands out, over any numbers that are `Lawful`: a closed word with exactly what it earns, the best of all walks where it
--- closes in the first pass, and any walk that closes and beats all others. Assumes nothing.
+-- What the search hands out. Over any numbers: a word of n bits. Where sums can be taken back (`Group`): a closed word with exactly what it
+-- earns, in any pass. Where the steps keep an order (`Ranked`): in the first pass such a word, the best of all walks, and any walk that closes
+-- and beats all others. Assumes nothing.
 use Prim.Native.Nat.{ℕ, zero, suc, _%_, _^_, _≤_, _<_}
 use mathlib.Core.Path.{_≡_, refl, sym, ap, ap₂, _∙_, subst}
 use mathlib.Core.Bool.{Bool, true, false, _&&_}
@@ -11,10 +12,11 @@ use lib.Ieee.Bits.{is-true}
 use Rattle.util.specs.Choose.{choose}
 use Rattle.ieee.specs.Whole.{run}
 use Rattle.conv.specs.Encoder.{state, walkRegister, bit}
+use Rattle.trellis.specs.Scale.{Scale}
 use Rattle.trellis.specs.Trellis.{Trellis, walkScore}
 use Rattle.trellis.specs.Search.{How, closing, candidate, unclosed, Candidate, Found, decision, final, endState, startOf, wordOf, closes, scoreOf, gainOf, candidates, begin, closesIn, last, best, wordIn, settled, search}
 use Rattle.trellis.proofs.Paths.{trace-state, trace-start-lt, trace-word-lt}
-use Rattle.trellis.proofs.Best.{Lawful, along, attained, end-greatest, highest-lt}
+use Rattle.trellis.proofs.Best.{Ranked, along, attained, scores-ok, end-greatest, highest-lt}
 
 -- the word has n bits and is that of a walk that ends where it starts, and the score is what this walk earns
 pub record Closing {A : Type 0} (X : Trellis A) (word : ℕ) (score : A) : Type 0 where
@@ -24,9 +26,16 @@ pub record Closing {A : Type 0} (X : Trellis A) (word : ℕ) (score : A) : Type 
   pub closed : state (X .states) start (bit word) (X .steps) ≡ start
   pub earned : walkScore X start word ≡ score
 
-data AllClosing {A : Type 0} (X : Trellis A) : Option (Candidate A) → Type 0 where
-  no-best : AllClosing X none
-  a-best : {c : Candidate A} → Closing X (c .word) (c .gain) → AllClosing X (some c)
+-- what holds of a candidate's word and gain, if there is one
+data Each {A : Type 0} (P : ℕ → A → Type 0) : Option (Candidate A) → Type 0 where
+  no-best : Each P none
+  a-best : {c : Candidate A} → P (c .word) (c .gain) → Each P (some c)
+
+-- What is asked of the numbers for a word of any pass: what was added can be taken away again.
+pub record Group {A : Type 0} (S : Scale A) : Type 0 where
+  pub add-nil : (a : A) → S .add a (S .nil) ≡ a
+  pub add-assoc : (a b c : A) → S .add (S .add a b) c ≡ S .add a (S .add b c)
+  pub add-sub : (a b : A) → S .sub (S .add a b) a ≡ b
 
 -- tells the ways apart
 abbrev pub passOf : How → ℕ
@@ -70,75 +79,87 @@ module _ {A : Type 0} (X : Trellis A) where
       which false true e = omega arith
       which false false e = omega arith
 
-module _ {A : Type 0} (X : Trellis A) {le : A → A → Type 0} (L : Lawful (X .scale) le) (even : X .states % 2 ≡ 0) (some-state : 0 < X .states) where
+  -- ---- candidates
+
+  -- what holds of every state's word and gain where its traceback closes, in each pass, holds of the best candidate
+  module _ {P : ℕ → A → Type 0} (each : (k s : ℕ) → s < X .states → T (closes X (begin X k) s) → P (wordOf X (begin X k) s) (gainOf X (begin X k) s)) where
+    one-more : (k s : ℕ) (b : Option (Candidate A)) → s < X .states → Each P b → (c d : Bool) → closes X (begin X k) s ≡ c
+        → Each P (choose (c && d) (some (record { word = wordOf X (begin X k) s; gain = gainOf X (begin X k) s })) b)
+    one-more k s b h g true true e = a-best (each k s h (rw e tt))
+    one-more k s b h g true false e = g
+    one-more k s b h g false d e = g
+
+    candidates-each : (k : ℕ) (b : Option (Candidate A)) (m : ℕ) → m ≤ X .states → Each P b → Each P (candidates X (begin X k) b m)
+    unfolding candidates
+    candidates-each k b zero h g = g
+    candidates-each k b (suc m) h g = one-more k m _ h (candidates-each k b m (omega arith) g) _ _ refl
+
+    best-each : (k : ℕ) → Each P (best X k)
+    unfolding best
+    best-each zero = no-best
+    best-each (suc k) = candidates-each k (best X k) (X .states) (omega arith) (best-each k)
+
+  -- ---- the word has n bits
+
+  settled-short : (o : Option (Candidate A)) → Each (λ w x. w < 2 ^ X .steps) o → settled X o .word < 2 ^ X .steps
+  unfolding settled
+  settled-short none g = trace-word-lt (X .states) (decision X (begin X 2)) (X .steps) _
+  settled-short (some c) (a-best g) = g
+
+  pub search-short : search X .word < 2 ^ X .steps
+  unfolding search
+  search-short = go (closesIn X (last X))
+    where
+      go : (c : Bool) → picked c .word < 2 ^ X .steps
+      go true = trace-word-lt (X .states) (decision X (begin X (last X))) (X .steps) _
+      go false = settled-short (best X 3) (best-each (λ k s h t. trace-word-lt (X .states) (decision X (begin X k)) (X .steps) s) 3)
+
+  -- ---- a traceback that closes, where its score is what its walk earns
+
+  module _ (even : X .states % 2 ≡ 0) (some-state : 0 < X .states) where
+    pub end-lt : (f : ℕ → A) → endState X f < X .states
+    end-lt f = highest-lt (X .scale) (final X f) (X .states) some-state
+
+    traced-closing : (f : ℕ → A) {s : ℕ} → s < X .states → walkScore X (startOf X f s) (wordOf X f s) ≡ scoreOf X f s
+        → T (closes X f s) → Closing X (wordOf X f s) (scoreOf X f s)
+    traced-closing f {s} h earned t =
+        record {
+          short = trace-word-lt (X .states) (decision X f) (X .steps) s;
+          start = startOf X f s;
+          start-lt = trace-start-lt even (decision X f) (X .steps) h;
+          closed = trace-state (X .states) even (decision X f) (X .steps) h ∙ sym (eqb→eq _ _ t);
+          earned = earned;
+        }
+
+-- ---- any pass
+
+module _ {A : Type 0} (X : Trellis A) (G : Group (X .scale)) (even : X .states % 2 ≡ 0) (some-state : 0 < X .states) where
   -- a walk's score counted on from a is a with the walk's score added
   along-from : (a : A) (p w j : ℕ) → along X a p w j ≡ X .scale .add a (along X (X .scale .nil) p w j)
   unfolding run
-  along-from a p w zero = sym (L .add-nil a)
+  along-from a p w zero = sym (G .add-nil a)
   along-from a p w (suc j) =
-      ap (λ (x : A). X .scale .add x (X .earn j (walkRegister (X .states) p (bit w) j))) (along-from a p w j) ∙ L .add-assoc a _ _
+      ap (λ (x : A). X .scale .add x (X .earn j (walkRegister (X .states) p (bit w) j))) (along-from a p w j) ∙ G .add-assoc a _ _
 
   -- EXACT, of one traceback: its word's score is what its walk earns
   pub gained : (f : ℕ → A) {s : ℕ} → s < X .states → walkScore X (startOf X f s) (wordOf X f s) ≡ scoreOf X f s
   gained f {s} h =
       let p = startOf X f s in
       let w = wordOf X f s in
-      sym (L .add-sub (f p) (walkScore X p w))
+      sym (G .add-sub (f p) (walkScore X p w))
       ∙ ap (λ (x : A). X .scale .sub x (f p)) (sym (along-from (f p) p w (X .steps)) ∙ attained X even f (X .steps) h)
-
-  traced-closing : (f : ℕ → A) {s : ℕ} → s < X .states → T (closes X f s) → Closing X (wordOf X f s) (scoreOf X f s)
-  traced-closing f {s} h t =
-      record {
-        short = trace-word-lt (X .states) (decision X f) (X .steps) s;
-        start = startOf X f s;
-        start-lt = trace-start-lt even (decision X f) (X .steps) h;
-        closed = trace-state (X .states) even (decision X f) (X .steps) h ∙ sym (eqb→eq _ _ t);
-        earned = gained f h;
-      }
 
   -- a candidate's gain is its word's score
   gain-closing : (f : ℕ → A) {s : ℕ} → s < X .states → T (closes X f s) → Closing X (wordOf X f s) (gainOf X f s)
   gain-closing f {s} h t =
-      subst (λ (p : ℕ). Closing X (wordOf X f s) (X .scale .sub (final X f s) (f p))) (eqb→eq _ _ t) (traced-closing f h t)
+      subst (λ (p : ℕ). Closing X (wordOf X f s) (X .scale .sub (final X f s) (f p))) (eqb→eq _ _ t)
+      (traced-closing X even some-state f h (gained f h) t)
 
-  -- every candidate closes
-  one-more : (f : ℕ → A) (b : Option (Candidate A)) (k : ℕ) → k < X .states → AllClosing X b → (c d : Bool) → closes X f k ≡ c
-      → AllClosing X (choose (c && d) (some (record { word = wordOf X f k; gain = gainOf X f k })) b)
-  one-more f b k h g true true e = a-best (gain-closing f h (rw e tt))
-  one-more f b k h g true false e = g
-  one-more f b k h g false d e = g
-
-  candidates-closing : (f : ℕ → A) (b : Option (Candidate A)) (k : ℕ) → k ≤ X .states → AllClosing X b → AllClosing X (candidates X f b k)
-  unfolding candidates
-  candidates-closing f b zero h g = g
-  candidates-closing f b (suc k) h g = one-more f _ k h (candidates-closing f b k (omega arith) g) _ _ refl
-
-  best-closing : (k : ℕ) → AllClosing X (best X k)
-  unfolding best
-  best-closing zero = no-best
-  best-closing (suc k) = candidates-closing (begin X k) (best X k) (X .states) (omega arith) (best-closing k)
-
-  pub end-lt : (f : ℕ → A) → endState X f < X .states
-  end-lt f = highest-lt (X .scale) (final X f) (X .states) some-state
-
-  settled-short : (o : Option (Candidate A)) → AllClosing X o → settled X o .word < 2 ^ X .steps
-  unfolding settled
-  settled-short none g = trace-word-lt (X .states) (decision X (begin X 2)) (X .steps) _
-  settled-short (some c) (a-best g) = g .short
-
-  settled-closing : (o : Option (Candidate A)) → AllClosing X o → (settled X o .how ≡ unclosed → ⊥)
+  settled-closing : (o : Option (Candidate A)) → Each (Closing X) o → (settled X o .how ≡ unclosed → ⊥)
       → Closing X (settled X o .word) (settled X o .score)
   unfolding settled
   settled-closing none g out = absurd (out refl)
   settled-closing (some c) (a-best g) out = g
-
-  pub search-short : search X .word < 2 ^ X .steps
-  unfolding search
-  search-short = go (closesIn X (last X))
-    where
-      go : (c : Bool) → picked X c .word < 2 ^ X .steps
-      go true = trace-word-lt (X .states) (decision X (begin X (last X))) (X .steps) _
-      go false = settled-short (best X 3) (best-closing 3)
 
   -- EXACT, of whatever is not handed out as unclosed, in any pass
   pub search-exact : (search X .how ≡ unclosed → ⊥) → Closing X (search X .word) (search X .score)
@@ -148,23 +169,45 @@ module _ {A : Type 0} (X : Trellis A) {le : A → A → Type 0} (L : Lawful (X .
       go : (c : Bool) → closesIn X (last X) ≡ c
           → (picked X c .how ≡ unclosed → ⊥)
           → Closing X (picked X c .word) (picked X c .score)
-      go true e out = traced-closing (begin X (last X)) (end-lt _) (rw e tt)
-      go false e out = settled-closing (best X 3) (best-closing 3) out
+      go true e out =
+          let s-lt = end-lt X even some-state (begin X (last X)) in
+          traced-closing X even some-state (begin X (last X)) s-lt (gained (begin X (last X)) s-lt) (rw e tt)
+      go false e out = settled-closing (best X 3) (best-each X (λ k s h t. gain-closing (begin X k) h t) 3) out
 
-  -- ---- the first pass
+-- ---- the first pass
 
+module _ {A : Type 0} (X : Trellis A) {le : A → A → Type 0} {ok : ℕ → A → Type 0} (L : Ranked X le ok)
+    (even : X .states % 2 ≡ 0) (some-state : 0 < X .states) where
   abbrev zeros : ℕ → A
   zeros = begin X 0
 
   abbrev end : ℕ
   end = endState X zeros
 
+  there : end < X .states
+  there = end-lt X even some-state zeros
+
+  -- the start scores are nil, so the score of the first pass's word is the end score,
+  end-score : scoreOf X zeros end ≡ final X zeros end
+  unfolding begin
+  end-score = L .sub-nil (scores-ok X L zeros (λ s l. L .nil-ok) (X .steps) (omega arith) there)
+
+  -- which is what its walk earns
+  first-gained : walkScore X (startOf X zeros end) (wordOf X zeros end) ≡ scoreOf X zeros end
+  unfolding begin
+  first-gained = attained X even zeros (X .steps) there ∙ sym end-score
+
   -- no walk scores more than the word of the first pass
   end-best : {p : ℕ} → p < X .states → (w : ℕ) → le (walkScore X p w) (scoreOf X zeros end)
   unfolding begin
-  end-best {p} h w =
-      subst (λ (x : A). le (walkScore X p w) x) (sym (attained X even zeros (X .steps) (end-lt zeros)) ∙ gained zeros (end-lt zeros))
-      (end-greatest X L zeros h w)
+  end-best {p} h w = subst (λ (x : A). le (walkScore X p w) x) (sym end-score) (end-greatest X L zeros (λ s l. L .nil-ok) h w)
+
+  -- EXACT
+  pub first-exact : search X .how ≡ closing 1 → Closing X (search X .word) (search X .score)
+  unfolding closesIn
+  first-exact e =
+      subst (λ (a : Found A). Closing X (a .word) (a .score)) (sym (first-out X (first-closes X e)))
+      (traced-closing X even some-state zeros there first-gained (first-closes X e))
 
   -- OPTIMAL
   pub search-optimal : search X .how ≡ closing 1 → {p : ℕ} → p < X .states → (w : ℕ) → le (walkScore X p w) (search X .score)
@@ -179,9 +222,9 @@ module _ {A : Type 0} (X : Trellis A) {le : A → A → Type 0} (L : Lawful (X .
     -- the end state's word is no other walk, since none scores more than it
     no-other : ((start ≡ p) × (wordOf X zeros end ≡ w) → ⊥) → ⊥
     no-other other =
-        let start-lt = trace-start-lt even (decision X zeros) (X .steps) (end-lt zeros) in
+        let start-lt = trace-start-lt even (decision X zeros) (X .steps) there in
         let word-lt = trace-word-lt (X .states) (decision X zeros) (X .steps) end in
-        L .gt-not-le (beats-all start (wordOf X zeros end) start-lt word-lt other) (rw (gained zeros (end-lt zeros)) (end-best h w))
+        L .gt-not-le (beats-all start (wordOf X zeros end) start-lt word-lt other) (rw first-gained (end-best h w))
 
     is-it : Dec (start ≡ p) → Dec (wordOf X zeros end ≡ w) → (start ≡ p) × (wordOf X zeros end ≡ w)
     is-it (yes e) (yes e′) = (e, e′)
@@ -195,7 +238,7 @@ module _ {A : Type 0} (X : Trellis A) {le : A → A → Type 0} (L : Lawful (X .
     meets : start ≡ end
     meets =
         same .0 ∙ sym closed ∙ sym (ap₂ (λ (q v : ℕ). state (X .states) q (bit v) (X .steps)) (same .0) (same .1))
-        ∙ trace-state (X .states) even (decision X zeros) (X .steps) (end-lt zeros)
+        ∙ trace-state (X .states) even (decision X zeros) (X .steps) there
 
     out : T (closesIn X 0)
     unfolding closesIn

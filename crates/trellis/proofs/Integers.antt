@@ -1,15 +1,17 @@
--- The whole numbers are `Lawful`: their order is one that sums keep, since b is at least a exactly where it is a and some more.
--- Assumes nothing.
+-- The whole numbers are a `Group`, and every trellis over them is `Ranked`: sums keep their order, since b is at least a exactly where it is a
+-- and some more. Assumes nothing.
 use Prim.Native.Nat.{ℕ, zero, suc, _+_, _-_, _≤_, _<_}
-use mathlib.Core.Path.{_≡_, refl, sym, ap, _∙_, subst}
+use mathlib.Core.Path.{_≡_, refl, sym, ap, _∙_, subst, subst₂}
 use mathlib.Core.Bool.{Bool, true, false, not, cond}
 use native.Mathlib.Nat.{le-trans, le-of-lt}
 use native.Mathlib.Omega.{arith}
 use lib.Dec.{T, ltb, leb→le, le→leb, ltb→lt, nltb→le}
-use lib.IntN.{ℤ, pos, negsuc, sucℤ, subℕ, _+ℤ_, _-ℤ_, +ℤ-assoc, +ℤ-comm, +ℤ-idr, +ℤ-sucℤ, +ℤ-negℤ-cancel}
+use lib.IntN.{ℤ, pos, negsuc, negℤ, natAbs, sucℤ, subℕ, _+ℤ_, _-ℤ_, +ℤ-assoc, +ℤ-comm, +ℤ-idr, +ℤ-sucℤ, +ℤ-negℤ-cancel}
 use lib.Signed.{leZ, ltZ, _≤ℤ_, ltZ-no, clashℤ, ≤ℤ-refl}
+use Rattle.ieee.proofs.Integers.{abs-sub}
 use Rattle.trellis.specs.Numbers.{whole}
-use Rattle.trellis.proofs.Best.{Lawful}
+use Rattle.trellis.proofs.Best.{Ranked}
+use Rattle.trellis.proofs.Handed.{Group}
 
 trans′ : (a b c : ℤ) → T (leZ a b) → T (leZ b c) → T (leZ a c)
 trans′ (pos a) (pos b) (pos c) h k = le→leb a c (le-trans (leb→le a b h) (leb→le b c k))
@@ -71,20 +73,35 @@ le-more a (suc k) = rw (+ℤ-sucℤ a (pos k)) (≤ℤ-trans (le-more a k) (reco
     (+ℤ-assoc a c (pos k) ∙ ap (λ (x : ℤ). a +ℤ x) (+ℤ-comm c (pos k)) ∙ sym (+ℤ-assoc a (pos k) c) ∙ ap (λ (x : ℤ). x +ℤ c) e)
     (le-more (a +ℤ c) k)
 
+-- from two sums, what is added being at most n large
+≤ℤ-size : (z : ℤ) (n : ℕ) → natAbs z ≤ n → z ≤ℤ pos n
+≤ℤ-size (pos a) n h = record { le = le→leb a n h }
+≤ℤ-size (negsuc a) n h = record { le = tt }
+
+pub ≤ℤ-apart : (a b c d : ℤ) (n : ℕ) → (a +ℤ c) ≤ℤ (b +ℤ d) → natAbs c ≤ n → natAbs d ≤ n → a ≤ℤ (b +ℤ pos (n + n))
+≤ℤ-apart a b c d n h k l =
+    let e : a ≤ℤ (b +ℤ (d -ℤ c)) = subst₂ _≤ℤ_ (+ℤ-negℤ-cancel a c) (+ℤ-assoc b d (negℤ c)) (≤ℤ-add (negℤ c) h) in
+    let f : (d -ℤ c) ≤ℤ pos (n + n) = ≤ℤ-size (d -ℤ c) (n + n) (le-trans (abs-sub d c) (omega arith)) in
+    ≤ℤ-trans e (subst₂ _≤ℤ_ (+ℤ-comm (d -ℤ c) b) (+ℤ-comm (pos (n + n)) b) (≤ℤ-add b f))
+
 -- taking away what was added
 +ℤ-take : (a b : ℤ) → (a +ℤ b) -ℤ a ≡ b
 +ℤ-take a b = ap (λ (x : ℤ). x -ℤ a) (+ℤ-comm a b) ∙ +ℤ-negℤ-cancel b a
 
-pub lawful : Lawful whole _≤ℤ_
-lawful =
+pub group : Group whole
+group = record { add-nil = +ℤ-idr; add-assoc = +ℤ-assoc; add-sub = +ℤ-take }
+
+-- any whole number can be a score
+pub ranked : {N n : ℕ} {earn : ℕ → ℕ → ℤ} → Ranked (record { scale = whole; states = N; steps = n; earn = earn }) _≤ℤ_ (λ j a. Unit {0})
+ranked =
     record {
-      le-refl = ≤ℤ-refl;
+      le-refl = λ {j} {a} o. ≤ℤ-refl a;
       le-trans = ≤ℤ-trans;
-      le-add = ≤ℤ-add;
       gt-le = <ℤ-≤ℤ;
-      not-gt-le = λ t. ltZ-no t;
+      not-gt-le = λ o p t. ltZ-no t;
       gt-not-le = λ t h. clashℤ (record { lt = t }) h;
-      add-nil = +ℤ-idr;
-      add-assoc = +ℤ-assoc;
-      add-sub = +ℤ-take;
+      nil-ok = tt;
+      step-ok = λ h l o. tt;
+      step-le = λ {j} {r} h l o p k. ≤ℤ-add _ k;
+      sub-nil = λ {j} {a} o. +ℤ-idr a;
     }

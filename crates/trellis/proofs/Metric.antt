@@ -12,15 +12,23 @@ use Rattle.conv.specs.Label.{labelOf}
 use Rattle.model.specs.Metric.{termAt, metricOf}
 use Rattle.model.proofs.Terms.{place-in-row, term-in-symbol}
 use Rattle.trellis.specs.Scale.{Scale}
+use Rattle.trellis.specs.Trellis.{walkScore}
 use Rattle.trellis.specs.Search.{search}
 use Rattle.trellis.specs.Terms.{placeIn, metric, header}
 use Rattle.trellis.proofs.Alike.{Follows, Same, SamePass, reach, sum-alike, pass-alike, search-alike}
 
 -- the five terms of a metric are among the 260 of its symbol
-term-within : (bins symbol v j n : ℕ) → 0 < bins → bins ≤ 48 → symbol < n → j < 5 → termAt symbol j (placeIn bins symbol v + j - 2) < 260 * n
+pub term-within : (bins symbol v j n : ℕ) → 0 < bins → bins ≤ 48 → symbol < n → j < 5 → termAt symbol j (placeIn bins symbol v + j - 2) < 260 * n
 term-within bins symbol v j n some most h l =
     let p : placeIn bins symbol v + j - 2 < 52 = place-in-row bins (hopOf bins symbol) v j some most l in
     omega (arith, term-in-symbol symbol j (placeIn bins symbol v + j - 2) l p)
+
+-- so those that a header's register earns by are among the header's
+pub step-within : (mode kind j r i : ℕ) → j < headerBits kind → i < 5
+    → termAt (slotOf (headerBits kind) j) i (placeIn (formatOf mode .bins) (slotOf (headerBits kind) j) (labelOf r) + i - 2) < 260 * headerBits kind
+step-within mode kind j r i h l =
+    let (least, most) = some-bins mode in
+    term-within (formatOf mode .bins) (slotOf (headerBits kind) j) (labelOf r) i (headerBits kind) (omega arith) most (slot-within (headerBits kind) j h) l
 
 module _ {A B : Type 0} {S : Scale A} {Z : Scale B} {R W : ℕ → A → B → Type 0} {cap : ℕ} (F : Follows S Z R W cap) (n M : ℕ)
     (t : ℕ → A) (u : ℕ → B) (alike : (i : ℕ) → i < 260 * n → W M (t i) (u i)) where
@@ -54,3 +62,11 @@ module _ {A B : Type 0} {S : Scale A} {Z : Scale B} {R W : ℕ → A → B → T
 
   pub header-alike : Same (R cap) (search (header S mode kind t)) (search (header Z mode kind u))
   header-alike = search-alike F 16384 (headerBits kind) (5 * M) refl (lit< tt) _ _ (λ j r h l. earn-alike j r h) header-room
+
+  -- and a walk earns the same, added from the left
+  pub walk-alike : (p w : ℕ) → R cap (walkScore (header S mode kind t) p w) (walkScore (header Z mode kind u) p w)
+  walk-alike p w =
+      F .wider (few (headerBits kind) (header-most kind)) (sum-alike F (5 * M) _ _ (headerBits kind) (λ j h. F .term (earn-alike j _ h)) (few (headerBits kind) (header-most kind)))
+    where
+      few : (h : ℕ) → h ≤ 64 → h * (5 * M) ≤ cap
+      few h l = omega (arith, mul-le-mul-right (5 * M) l)

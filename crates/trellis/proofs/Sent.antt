@@ -95,7 +95,7 @@ module _ (n : ℕ) (g : ℕ → ℤ) where
 
 -- the closed word w scores the sum over the header's symbols of the metric of the value sent there
 pub sent-earns : (mode kind : ℕ) (ints : ℕ → ℤ) (w : ℕ)
-    → closed mode kind ints w ≡ sum whole (λ symbol. metric whole (formatOf mode .bins) ints symbol (getD (labels (headerBits kind) (bit w)) symbol 0)) (headerBits kind)
+    → closed whole mode kind ints w ≡ sum whole (λ symbol. metric whole (formatOf mode .bins) ints symbol (getD (labels (headerBits kind) (bit w)) symbol 0)) (headerBits kind)
 unfolding stepLabel
 sent-earns mode kind ints w =
     let n = headerBits kind in

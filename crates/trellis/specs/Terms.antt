@@ -1,5 +1,5 @@
 -- Document 01, 'A header read': from terms to what a register earns, and the search over them.
-use Prim.Native.Nat.{ℕ, _≤_, _<_}
+use Prim.Native.Nat.{ℕ, _+_, _^_, _≤_, _<_}
 use mathlib.Core.Bool.{true, false}
 use mathlib.Core.List.{List}
 use lib.ListN.{length, getD}
@@ -8,6 +8,7 @@ use lib.IntN.{ℤ, natAbs}
 use lib.Ieee.{Float, nan, binary32, fits}
 use Rattle.ieee.specs.Whole.{Whole}
 use Rattle.ieee.specs.Within.{Within}
+use Rattle.ieee.specs.Units.{Units}
 use Rattle.frame.specs.Format.{formatOf, headerBits}
 use Rattle.frame.specs.Air.{hopOf, binOf, placeOf, slotOf}
 use Rattle.conv.specs.Label.{labelOf}
@@ -54,3 +55,8 @@ pub record WholeTerms (b : ℕ) (terms : List Float) (ints : ℕ → ℤ) : Type
 pub record Accepted (terms : List Float) : Type 0 where
   pub held : (i : ℕ) → i < length terms → T (fits binary32 (lent terms i))
   pub within : (i : ℕ) → i < length terms → Within (million true) (million false) (lent terms i)
+
+-- the terms are, exactly, ints in units of 2^-149 (of which every f32 is a whole number), each from -2^a to 2^a
+pub record UnitTerms (a : ℕ) (terms : List Float) (ints : ℕ → ℤ) : Type 0 where
+  pub units : (i : ℕ) → i < length terms → Units 149 (lent terms i) (ints i)
+  pub small : (i : ℕ) → i < length terms → natAbs (ints i) ≤ 2 ^ (a + 149)

@@ -1,0 +1,92 @@
+-- ANY TERMS: at f32 the steps keep the order too, since rounding does and every sum is finite. So what is proved of the first pass holds of every
+-- read that is not refused, with scores added as the receiver adds them. Assumes nothing.
+use Prim.Native.Nat.{ℕ, suc, _+_, _*_, _^_, _≤_, _<_}
+use mathlib.Core.Path.{_≡_, refl, sym, ap, _∙_, subst}
+use mathlib.Core.Bool.{true, false, _&&_}
+use mathlib.Core.List.{List}
+use native.Mathlib.Nat.{mul-le-mul-right}
+use native.Mathlib.Omega.{arith}
+use borrow.Author.Tests.{not-false}
+use lib.Dec.{T, lit<, lit≤, T-not}
+use lib.ListN.{length}
+use lib.Ieee.{Float, nan, binary32, fits, le}
+use lib.Ieee.Fits.{and-l, and-r, add-fits}
+use Rattle.util.proofs.Some.{none-of}
+use Rattle.ieee.specs.Size.{Upto}
+use Rattle.ieee.proofs.Order.{le-refl, le-trans, lt→le, not-lt→le, lt→not-le, finite-not-nan}
+use Rattle.ieee.proofs.Rounds.{add-mono}
+use Rattle.ieee.proofs.Sizes.{upto-zero, upto-wider, upto-within, add-upto, run-upto}
+use Rattle.ieee.proofs.Values.{sub-zero}
+use Rattle.frame.specs.Format.{headerBits}
+use Rattle.frame.proofs.Air.{header-most}
+use Rattle.model.specs.Metric.{metricOf}
+use Rattle.model.specs.Range.{million, outOfRange, someOut}
+use Rattle.trellis.specs.Search.{How, Found, search}
+use Rattle.trellis.specs.Answer.{outcomeOf}
+use Rattle.trellis.specs.Numbers.{single}
+use Rattle.trellis.specs.Terms.{header, lent, documentSearch}
+use Rattle.trellis.specs.Demand.{AnyTerms}
+use Rattle.trellis.proofs.Best.{Ranked}
+use Rattle.trellis.proofs.Handed.{search-short}
+use Rattle.trellis.proofs.Metric.{step-within}
+use Rattle.trellis.proofs.Demand.{exact-first, optimal, unique, score-is, first-is, header-long}
+
+-- what j steps can earn: a value of f32 of at most 5 j terms, each within 2^20
+record Earned (j : ℕ) (x : Float) : Type 0 where
+  held : T (fits binary32 x)
+  upto : Upto (5 * j) 20 x
+
+module _ (mode kind : ℕ) (terms : List Float) (all : length terms ≡ 260 * headerBits kind) (in-range : someOut terms ≡ false) where
+  abbrev earn : ℕ → ℕ → Float
+  earn = header single mode kind (lent terms) .earn
+
+  term-upto : (i : ℕ) → i < 260 * headerBits kind → Upto 1 20 (lent terms i)
+  term-upto i l =
+      let from = le (million true) (lent terms i) in
+      let to = le (lent terms i) (million false) in
+      let both : T (from && to) = subst T (sym (not-false (from && to) (none-of outOfRange terms nan in-range i (subst (λ (k : ℕ). i < k) (sym all) l)))) tt in
+      upto-within (record { finite = tt; size = lit≤ tt }) (record { finite = tt; size = lit≤ tt })
+      (record { from = and-l from to both; to = and-r from to both })
+
+  earn-upto : (j r : ℕ) → j < headerBits kind → Upto 5 20 (earn j r)
+  unfolding metricOf
+  earn-upto j r h = run-upto binary32 20 _ 5 (λ i l. term-upto _ (step-within mode kind j r i h l)) (lit< tt) (lit≤ tt)
+
+  ranked : Ranked (header single mode kind (lent terms)) (λ a b. T (le a b)) Earned
+  unfolding fits
+  ranked =
+      record {
+        le-refl = λ {j} {a} o. le-refl a (finite-not-nan a (o .upto .finite));
+        le-trans = λ {a} {b} {c} k l. le-trans a b c k l;
+        gt-le = λ {a} {b} t. lt→le b a t;
+        not-gt-le = λ {j} {a} {b} o p t. not-lt→le b a (finite-not-nan b (p .upto .finite)) (finite-not-nan a (o .upto .finite)) t;
+        gt-not-le = λ {a} {b} t k. T-not (le a b) (lt→not-le b a t) k;
+        nil-ok = record { held = tt; upto = upto-zero };
+        step-ok = λ {j} {r} {a} k l o.
+            let more : 5 * j + 5 ≤ 5 * suc j = omega arith in
+            record {
+              held = add-fits binary32 a (earn j r);
+              upto = upto-wider (5 * suc j) 20 (add-upto binary32 (o .upto) (earn-upto j r k) (omega (arith, header-most kind)) (lit≤ tt)) (mul-le-mul-right (2 ^ 20) more);
+            };
+        step-le = λ {j} {r} {a} {b} k l o p q.
+            let e = earn-upto j r k .finite in
+            add-mono binary32 a b (earn j r) (earn j r) (o .upto .finite) (p .upto .finite) e e q (le-refl (earn j r) (finite-not-nan (earn j r) e));
+        sub-nil = λ {j} {a} o. sub-zero binary32 a (o .held) (o .upto .finite);
+      }
+
+  abbrev F : Found Float
+  F = search (header single mode kind (lent terms))
+
+  pub any-terms : AnyTerms mode kind terms (documentSearch mode kind terms)
+  any-terms =
+      record {
+        short = search-short (header single mode kind (lent terms));
+        given = refl;
+        exact = λ o.
+            score-is (F .how) (F .score)
+            ∙ sym (exact-first single 14 (lit< tt) (headerBits kind) (header-long kind) earn ranked (first-is (F .how) (F .score) o));
+        optimal = λ o p w hp _. optimal single 14 (lit< tt) (headerBits kind) (header-long kind) earn ranked (first-is (F .how) (F .score) o) hp w;
+        unique = λ w _ beats.
+            let u = unique single 14 (lit< tt) (headerBits kind) (header-long kind) earn ranked w beats in
+            (u .0, (F .score, ap (λ (i : How). outcomeOf i (F .score)) (u .1)));
+      }
