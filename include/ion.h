@@ -1,10 +1,16 @@
-/* The receiving core of the ion HF modem, proved: the entries of the static library libion.a (`rt staticlib ion`).
+/* The receiving core of the ion HF modem, proved: the functions of the static library libion.a (`rt staticlib ion`).
  *
  * Every function takes any numbers and any buffers of the lengths that are told, and ends. It returns 0, or the number of the
- * refusal (document 01, 'When nothing is done'); of several causes the lowest number. Results and lent buffers are written
- * only where 0 is returned. A pointer must be valid for its length, also where that is 0; buffers must not overlap.
+ * refusal; of several causes the lowest number (ion_refusal has a text for each). Results and lent buffers are written only where
+ * 0 is returned.
  *
- * mode: 0 R0, 1 R1. kind: 0 HeaderOnly (48 header symbols), 1 Data (64), 2 Cue (48). n below is that count.
+ * Buffers: a pointer must be valid for its length and aligned as its type asks; with length 0 it may be NULL. Lent buffers must
+ * overlap neither each other nor an input. Nothing is kept between calls, so any threads may call at once over buffers of their own.
+ * No function recurses or allocates; ion_read_header takes some 9 KiB of stack, ion_track_timing some 2 KiB, the others less.
+ *
+ * Terms: per symbol five rows of 52 floats, row 0 first, place 0 first in each: 260. Each is a natural logarithm: row j, place e has
+ * ln(p(energy at place e | a tone j-2 places below it) / p(energy | noise alone)). Bin b of the mode's grid is place b+2. A value's
+ * metric is the sum of five terms, one of each row, around its bin's place; a header's score is the sum of its symbols' metrics.
  */
 #ifndef ION_H
 #define ION_H
@@ -16,8 +22,44 @@
 extern "C" {
 #endif
 
-/* The number of the last change request that is in; 0 is the base. Answer, outcome and tracker will grow. */
+/* The number of the last change request that is in; 0 is the base. Answer, outcome and tracker will grow. The library has the number
+ * in a symbol's name, which every file that includes this header asks for: a library of another version does not link. */
 #define ION_VERSION 0
+uint32_t ion_version_0(void);
+#if defined(__GNUC__)
+__attribute__((used)) static uint32_t (*const ion_version)(void) = ion_version_0;
+#endif
+
+/* modes, kinds, the form of data, what was heard of a symbol, outcomes of a header read */
+enum { ION_R0 = 0, ION_R1 = 1 };
+enum { ION_HEADER_ONLY = 0, ION_DATA = 1, ION_CUE = 2 };
+enum { ION_BIT_FORM = 0, ION_SYMBOL_FORM = 1 };
+enum { ION_MISSED = 0, ION_HEARD = 1 };
+enum { ION_SURE = 0, ION_KEPT = 1, ION_OPEN = 2 };
+
+/* sizes: header symbols (n below, and as many header bits) by kind, terms and values of a symbol, places of a score area, words of
+ * decisions for each header symbol, the most data bits, CRC bits, calls of a tracker (and shifts), blocks */
+#define ION_HEADER_SYMBOLS(kind) ((kind) == ION_DATA ? 64 : 48)
+enum { ION_TERMS = 260, ION_VALUES = 32, ION_STATES = 16384, ION_DECISIONS = 256 };
+enum { ION_MOST_BITS = 10240, ION_MOST_CRC_BITS = 1024, ION_MOST_CALLS = 2048, ION_MOST_BLOCKS = 64 };
+
+/* What a number says; of 0 that it is no refusal. */
+static inline const char *ion_refusal(uint32_t number) {
+    static const char *const text[] = {
+        "done",
+        "mode or kind not named",
+        "more than 10,240 bits, or a multiplier's length above that",
+        "a window that the mode does not have",
+        "a buffer has another length than stated, or a CRC has over 1,024 bits",
+        "a bit byte above 1",
+        "a term is not finite or beyond +-1,000,000",
+        "a blanked count above 255 times the window",
+        "early, late or noise not in 0 to 10^9",
+        "2,048 symbols were tracked already, or the tracker's rule is broken",
+        "over 64 blocks, or a block out of range or falling",
+    };
+    return number < sizeof text / sizeof *text ? text[number] : "no number of this library";
+}
 
 /* The multiplier of the interleaver p -> (a*p) mod n.
  * Refused: 2 (n above 10,240). */
@@ -31,28 +73,40 @@ uint32_t ion_crc(uint8_t mode, uint8_t kind, const uint8_t *bits, size_t bits_le
  * Refused: 1, 4 (a length is not n), 5 (a byte above 1). */
 uint32_t ion_header_values(uint8_t mode, uint8_t kind, const uint8_t *bits, size_t bits_len, uint8_t *values, size_t values_len);
 
-/* Reads a header. terms: n*260 floats, per symbol five rows of 52. Work areas, zeros after an answer: scores, next and start of
- * 16,384 floats, decisions of n*256 words. word: header bit j at place j from the lowest. outcome: 0 Sure, 1 Kept, 2 Open.
- * pass: 1 to 3 for Sure, else 0.
+/* Reads a header. terms: n*260 floats. Work areas, zeros after an answer: scores, next and start of 16,384 floats, decisions of n*256
+ * words. word: header bit j at place j from the lowest, zeros above the last. outcome: ION_SURE, ION_KEPT or ION_OPEN. pass: 1 to 3 for
+ * Sure, else 0. score: what the search gives the word.
+ *
+ * What is proved of an answer, and under which condition:
+ * - Sure in pass 1, any accepted terms: the score is the word's own, added in f32 as the receiver adds it, and no other word, closed or
+ *   not, has a greater one. For terms within +-2^a (a from 0 to 20) no word's exact score is above the word's by more than 2^(a-8):
+ *   with terms within +-64 no word beats it by more than a quarter of a point.
+ * - Whole terms from -800 to 800: then no word beats it at all; and the score of Sure in any pass and of Kept is exactly what the word's
+ *   sent symbols earn.
+ * - Sure in pass 2 or 3, Kept: a closed word that the search gives. It need not be the best one.
+ * - Open: no closed word was found; the word is no header's.
  * Refused: 1, 4 (one of the five lengths), 6 (a term not finite or beyond +-1,000,000). */
 uint32_t ion_read_header(uint8_t mode, uint8_t kind, const float *terms, size_t terms_len, float *scores, size_t scores_len,
                          float *next, size_t next_len, float *start, size_t start_len, uint64_t *decisions, size_t decisions_len,
                          uint64_t *word, uint8_t *outcome, uint8_t *pass, float *score);
 
-/* Metrics and soft bits of a burst of S = ceil(bits/5) data symbols. symbols: 0 bit form, anything else symbol form. window: one
- * of the mode's three. terms: S*260; blanked: S counts; work: S*32, zeros after an answer; metrics: S*32; soft: bits.
+/* Metrics and soft bits of a burst of S = ceil(bits/5) data symbols. symbols: ION_BIT_FORM, anything else symbol form. window: one of
+ * the mode's three, in samples of the baseband. terms: S*260. blanked: S counts of blanked audio samples, each over the 7*window samples
+ * behind a symbol's window; more than half of them erase the symbol. work: S*32, zeros after an answer. metrics: S*32, each from -40 to 0,
+ * relative to the symbol's greatest. soft: one float a bit, from -12 to 12, ln(p(bit is 0) / p(bit is 1)): above 0 the bit is rather 0.
  * Refused: 1, 2 (over 10,240 bits), 3 (window not of the mode), 4 (a length), 6 (a term), 7 (a count above 255*window). */
 uint32_t ion_soft_values(uint8_t mode, uint8_t kind, uint8_t symbols, uint32_t window, uint32_t bits, const float *terms,
                          size_t terms_len, const uint32_t *blanked, size_t blanked_len, float *work, size_t work_len,
                          float *metrics, size_t metrics_len, float *soft, size_t soft_len);
 
-/* The drift by up to 64 blocks, whose fields come in two lists of one length: twice the place, 0 to 4,096 and never falling, and
- * the timing, within +-4,096.
+/* The drift, in samples a symbol, by up to 64 blocks, whose fields come in two lists of one length: twice the place, counted in symbols,
+ * 0 to 4,096 and never falling, and the timing in samples, within +-4,096. Below six blocks 0.
  * Refused: 1, 4 (two lengths), 10 (over 64 blocks, a block out of range or falling). */
 uint32_t ion_fit_drift(uint8_t mode, const uint32_t *places, size_t places_len, const double *timings, size_t timings_len,
                        double *drift);
 
-/* What is kept of a burst between its symbols; all zeros is a fresh one. n: the calls made; blocks: how many are listed. */
+/* What is kept of a burst between its symbols; all zeros is a fresh one. n: the calls made. shift: by how many samples the next symbol's
+ * window is moved. tnum, tden: the present block's sums. drift: samples a symbol. blocks: how many are listed. */
 typedef struct {
     size_t n;
     int32_t shift;
@@ -60,8 +114,9 @@ typedef struct {
     size_t blocks;
 } ion_tracker;
 
-/* One symbol of a burst, over the tracker's fields, its 2,048 shifts and the fields of its 64 blocks in two lists. heard: 0 Missed
- * (the three doubles are not looked at), anything else Heard.
+/* One symbol of a burst, over the tracker's fields, its 2,048 shifts and the fields of its 64 blocks in two lists. heard: ION_MISSED
+ * (the three doubles are not looked at), anything else Heard. early, late: the tone's energy in a window some samples before and after
+ * the symbol's, noise: what of it is expected to be noise, all in one unit.
  * Refused: 1, 4 (a length, or two lengths), 8 (early, late or noise not in 0..10^9), 9 (2,048 calls made, or the tracker's rule is
  * broken), 10 (a listed block out of range or falling). */
 uint32_t ion_track_timing(uint8_t mode, size_t *n, int32_t *shift, double *tnum, double *tden, double *drift, size_t *blocks,

@@ -1,8 +1,10 @@
 #!/bin/sh
 # Times the header read, soft values and the tracker against the Rust's, by turns in one run, and plots soft values by the number of symbols.
-# usage: oracle/bench.sh [REPEATS]      (from anywhere; needs rustc; writes only below target/: the plot is target/bench.svg)
+# usage: oracle/bench.sh [REPEATS]      (from anywhere; needs rustc and ../shared; writes only below target/: the plot is target/bench.svg)
 #        oracle/bench.sh once SYMBOLS   one burst of soft values in each form, for valgrind to count its instructions in target/oracle/bench
+# REPEATS: 20 unless given, which takes some two minutes.
 set -eu
-cd "$(dirname "$0")/.."
-oracle/build.sh bench oracle/bench.rs
+. "$(dirname "$0")/common.sh"
+"$root/oracle/build.sh" bench oracle/bench.rs
+cd "$root"
 exec target/oracle/bench "$@"

@@ -38,9 +38,14 @@ fn expected(c: &ConvCode, b: &Burst, soft: bool, metrics: bool) -> (u64, bool, S
     (word, good, s)
 }
 
-/// Runs `burst` with `grep .` behind it: what both wrote, and grep's status.
+fn stop(why: &str) -> ! {
+    eprintln!("burst_check: {why}");
+    std::process::exit(2)
+}
+
+/// Runs `burst` (oracle/burst_check.sh says where it lies) with `grep .` behind it: what both wrote, and grep's status.
 fn run(file: &[u8], words: &str) -> (String, String, Option<i32>) {
-    let mut p = Command::new("sh").args(["-c", &format!("target/bin/burst {words} | grep .")]).stdin(Stdio::piped()).stdout(Stdio::piped()).stderr(Stdio::piped()).spawn().unwrap();
+    let mut p = Command::new("sh").args(["-c", &format!("\"$BURST\" {words} | grep .")]).stdin(Stdio::piped()).stdout(Stdio::piped()).stderr(Stdio::piped()).spawn().unwrap();
     let mut input = p.stdin.take().unwrap();
     let file = file.to_vec();
     // a refused file is not read to its end
@@ -71,7 +76,7 @@ fn main() {
     let c = code();
     let args: Vec<String> = std::env::args().skip(1).collect();
     if let Some(path) = args.first().filter(|a| a.parse::<u64>().is_err()) {
-        let b = made::read(&std::fs::read(path).unwrap()).unwrap();
+        let b = std::fs::read(path).map_err(|e| e.to_string()).and_then(|s| made::read(&s)).unwrap_or_else(|why| stop(&format!("{path}: {why}")));
         print!("{}", expected(&c, &b, args.contains(&"soft".into()), args.contains(&"metrics".into())).2);
         return;
     }

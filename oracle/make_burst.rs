@@ -8,7 +8,7 @@ use std::io::Write;
 const USE: &str = "make_burst [--seed N] [--mode 0|1] [--kind 0|1|2] [--form 0|1] [--window N] [--bits N]
            [--snr DB] [--doppler HZ] [--delay MS] [--carrier DB] [--blanked SHARE] [--damage WHAT]
 mode 0 R0, 1 R1; kind 0 HeaderOnly, 1 Data, 2 Cue; form 0 bits, 1 symbols; window one of the mode's three;
-snr over noise in 3,000 Hz; doppler 0: one steady path; carrier: on one bin, dB over the signal;
+snr over noise in 3,000 Hz; doppler 0: one steady path; carrier: on one bin, dB over the signal; blanked: 0 to 1;
 damage: nan, large, cut, long, magic, version, mode, kind, form, zeros, window, bits, count";
 
 fn stop(why: &str) -> ! {
@@ -38,11 +38,26 @@ fn asked() -> (u64, How, Option<String>) {
             "--carrier" => how.carrier = Some(number(&name, next())),
             "--blanked" => how.blanked = number(&name, next()),
             "--damage" => damage = next(),
+            "--options" | "--help" | "-h" => {
+                println!("{USE}");
+                std::process::exit(0)
+            }
             _ => stop(&format!("{name} is not known")),
         }
     }
     if how.mode > 1 || how.kind > 2 || how.bits > 10_240 {
         stop("mode, kind or bits out of range");
+    }
+    for (name, x, most) in [
+        ("--snr", how.snr.abs(), 200.0),
+        ("--doppler", how.doppler, 100.0),
+        ("--delay", how.delay, 100.0),
+        ("--carrier", how.carrier.unwrap_or(0.0).abs(), 200.0),
+        ("--blanked", how.blanked, 1.0),
+    ] {
+        if !(0.0..=most).contains(&x) {
+            stop(&format!("{name} is out of range"));
+        }
     }
     if how.window != 0 && !windows(MODES[how.mode as usize]).contains(&(how.window as usize)) {
         stop("the window is not one of the mode's");

@@ -5,7 +5,7 @@
 #include "ion.h"
 #include <stdio.h>
 
-#define N 48
+#define N ION_HEADER_SYMBOLS(ION_HEADER_ONLY)
 
 /* SplitMix64, for the hop of a symbol (document 01, 'Modes and air order'). */
 static uint64_t mix64(uint64_t z) {
@@ -16,36 +16,38 @@ static uint64_t mix64(uint64_t z) {
 }
 
 int main(void) {
-    static float terms[N * 260], scores[16384], next[16384], start[16384];
-    static uint64_t decisions[N * 256];
+    static float terms[N * ION_TERMS], scores[ION_STATES], next[ION_STATES], start[ION_STATES];
+    static uint64_t decisions[N * ION_DECISIONS];
     uint8_t bits[N], values[N], outcome, pass;
     uint64_t word = 0x1234567890ABu, read = 0;
     float score;
     for (int j = 0; j < N; j++)
         bits[j] = word >> j & 1;
-    if (ion_header_values(0, 0, bits, N, values, N) != 0)
+    if (ion_header_values(ION_R0, ION_HEADER_ONLY, bits, N, values, N) != 0)
         return 1;
     for (int s = 0; s < N; s++) /* row 2, at the place of the value's bin */
         terms[260 * s + 104 + (mix64((uint64_t)s ^ 0x4D46534B484F5000u) % 48 + values[s]) % 48 + 2] = 8.0f;
-    if (ion_read_header(0, 0, terms, N * 260, scores, 16384, next, 16384, start, 16384, decisions, N * 256, &read, &outcome, &pass, &score) != 0)
+    if (ion_read_header(ION_R0, ION_HEADER_ONLY, terms, N * ION_TERMS, scores, ION_STATES, next, ION_STATES, start, ION_STATES, decisions,
+                        N * ION_DECISIONS, &read, &outcome, &pass, &score) != 0)
         return 1;
     printf("sent %012llx, read %012llx, outcome %u, pass %u, score %g\n", (unsigned long long)word, (unsigned long long)read, outcome, pass, score);
     terms[7] = 1e7f;
-    uint32_t refused = ion_read_header(0, 0, terms, N * 260, scores, 16384, next, 16384, start, 16384, decisions, N * 256, &read, &outcome, &pass, &score);
-    printf("with a term of 1e7: refused by number %u\n", refused);
+    uint32_t refused = ion_read_header(ION_R0, ION_HEADER_ONLY, terms, N * ION_TERMS, scores, ION_STATES, next, ION_STATES, start, ION_STATES,
+                                       decisions, N * ION_DECISIONS, &read, &outcome, &pass, &score);
+    printf("with a term of 1e7: refused by number %u, %s\n", refused, ion_refusal(refused));
 
     /* a burst that comes later by 0.02 samples a symbol: what is left of that beside the shift moves energy to the late gate */
-    static int32_t shifts[2048];
-    static uint32_t places[64];
-    static double timings[64];
+    static int32_t shifts[ION_MOST_CALLS];
+    static uint32_t places[ION_MOST_BLOCKS];
+    static double timings[ION_MOST_BLOCKS];
     ion_tracker t = {0};
-    for (int i = 0; i < 2048; i++) {
+    for (int i = 0; i < ION_MOST_CALLS; i++) {
         double left = 9.0 / 104.0 * (0.02 * i - t.shift);
-        if (ion_track(0, &t, shifts, 2048, places, 64, timings, 64, 1, 10.0 - left, 10.0 + left, 1.0) != 0)
+        if (ion_track(ION_R0, &t, shifts, ION_MOST_CALLS, places, ION_MOST_BLOCKS, timings, ION_MOST_BLOCKS, ION_HEARD, 10.0 - left, 10.0 + left, 1.0) != 0)
             return 1;
     }
     printf("after %zu symbols: %zu blocks, drift %.6f samples a symbol, shift %d\n", t.n, t.blocks, t.drift, t.shift);
-    uint32_t full = ion_track(0, &t, shifts, 2048, places, 64, timings, 64, 0, 0, 0, 0);
-    printf("one symbol more: refused by number %u\n", full);
-    return !(read == word && outcome == 0 && pass == 1 && score == 8.0f * N && refused == 6 && t.n == 2048 && t.blocks == 63 && full == 9);
+    uint32_t full = ion_track(ION_R0, &t, shifts, ION_MOST_CALLS, places, ION_MOST_BLOCKS, timings, ION_MOST_BLOCKS, ION_MISSED, 0, 0, 0);
+    printf("one symbol more: refused by number %u, %s\n", full, ion_refusal(full));
+    return !(read == word && outcome == ION_SURE && pass == 1 && score == 8.0f * N && refused == 6 && t.n == 2048 && t.blocks == 63 && full == 9);
 }

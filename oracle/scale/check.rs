@@ -1,4 +1,5 @@
 // One input's comparisons. Every value and every lent list goes through here, so that a planted difference can be put before any of them.
+use crate::rivals::Rivals;
 use std::fmt::Debug;
 
 /// A number as its bits: -0.0 is not 0.0, and two NaNs are the same only with the same payload.
@@ -48,9 +49,22 @@ pub struct Check {
     /// Calls that were answered, by kind, and that were refused, by number: what the Rust or the table says.
     pub answers: [u64; KINDS],
     pub refused: [u64; 11],
+    /// Headers out in the first pass against a search in f64.
+    pub rivals: Rivals,
 }
 
 impl Check {
+    /// A comparison that is made elsewhere: whether a difference is to be planted in it.
+    pub fn planted_here(&mut self) -> bool {
+        let here = self.plant == Some(self.made);
+        self.turned |= here;
+        self.made += 1;
+        self.numbers += 1;
+        here
+    }
+    pub fn differs(&mut self, why: String) {
+        self.bad.get_or_insert(why);
+    }
     fn turn<T: Bits>(&mut self, ours: &mut [T]) {
         if self.plant == Some(self.made) {
             let at = (self.made * 7919 + ours.len() / 2) % ours.len();

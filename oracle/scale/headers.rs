@@ -5,6 +5,7 @@ use crate::face::Header;
 use crate::inputs::{Dice, dirty, rows, sent_places, styled};
 use crate::jobs::{Job, Oracle};
 use crate::made::{How, KINDS, MODES, made};
+use crate::rivals;
 use crate::small::{bad_name, header_bits};
 use ion::phy_mfsk::hook::{Fmt, decode_terms_told, windows};
 
@@ -28,10 +29,12 @@ fn table(mode: u8, kind: u8, terms: &[f32], lengths: [usize; 4]) -> u32 {
     }
 }
 
-/// One header on both sides, with areas of these lengths: the number, the answer, every lent byte.
-pub fn read(o: &Oracle, c: &mut Check, d: &mut Dice, mode: u8, kind: u8, mut terms: Vec<f32>, lengths: [usize; 4]) {
+/// One header on both sides, with areas of these lengths: the number, the answer, every lent byte. Returns word and score of one that is out by
+/// closing in the first pass.
+pub fn read(o: &Oracle, c: &mut Check, d: &mut Dice, mode: u8, kind: u8, mut terms: Vec<f32>, lengths: [usize; 4]) -> Option<(u64, f32)> {
     let (before, want) = (terms.clone(), table(mode, kind, &terms, lengths));
     let mut ours = lent(d, lengths);
+    let mut first = None;
     let left = (want != 0).then(|| (ours.scores.clone(), ours.decisions.clone(), ours.word));
     c.one("number", &mut ours.read(mode, kind, &terms), want);
     if let Some((scores, decisions, word)) = left {
@@ -44,7 +47,9 @@ pub fn read(o: &Oracle, c: &mut Check, d: &mut Dice, mode: u8, kind: u8, mut ter
         c.refused(want);
     } else {
         let (bits, score, (outcome, pass, _)) = decode_terms_told(&o.code, MODES[mode as usize], KINDS[kind as usize], &rows(&before));
-        c.one("word", &mut ours.word, bits.iter().rev().fold(0u64, |w, &b| w << 1 | b as u64));
+        let word = bits.iter().rev().fold(0u64, |w, &b| w << 1 | b as u64);
+        first = ((outcome, pass) == (0, 1)).then_some((word, score));
+        c.one("word", &mut ours.word, word);
         c.one("outcome", &mut ours.outcome, outcome);
         c.one("pass", &mut ours.pass, pass);
         c.one("score", &mut ours.score, score);
@@ -54,6 +59,7 @@ pub fn read(o: &Oracle, c: &mut Check, d: &mut Dice, mode: u8, kind: u8, mut ter
     }
     c.list("the terms", &mut terms, &before);
     c.input(|| format!("mode {mode} kind {kind}, {} terms, areas of {lengths:?}, first terms {:?}", before.len(), &before[..before.len().min(6)]));
+    first
 }
 
 /// Mode and kind: seven of eight headers have 48 symbols, which cost less.
@@ -78,8 +84,10 @@ pub fn channel(d: &mut Dice, mode: u8, kind: u8, bits: u32) -> How {
 fn by_channel(o: &Oracle, d: &mut Dice, i: u64, c: &mut Check) {
     let (mode, kind) = named(d, i);
     let how = channel(d, mode, kind, 0);
-    let b = made(d.word(), &how);
-    read(o, c, d, mode, kind, b.header_terms, Header::lengths(header_bits(kind)))
+    let terms = made(d.word(), &how).header_terms;
+    if let Some((word, score)) = read(o, c, d, mode, kind, terms.clone(), Header::lengths(header_bits(kind))) {
+        rivals::hold(c, mode, &terms, word, score);
+    }
 }
 
 /// Near a normal number of spread 1, from one word.
@@ -124,7 +132,7 @@ fn by_terms(o: &Oracle, d: &mut Dice, i: u64, c: &mut Check) {
         }
         _ => (),
     }
-    read(o, c, d, mode, kind, t, Header::lengths(n))
+    read(o, c, d, mode, kind, t, Header::lengths(n));
 }
 
 /// No header, or one that ties: noise, equal and whole terms, the range's ends, subnormal numbers, any bits within the range, and
@@ -149,7 +157,7 @@ fn random(o: &Oracle, d: &mut Dice, i: u64, c: &mut Check) {
             t
         }
     };
-    read(o, c, d, mode, kind, t, Header::lengths(n))
+    read(o, c, d, mode, kind, t, Header::lengths(n));
 }
 
 /// A good header with one to three damages: names, five lengths, terms out of range. Some are harmless, and are then read.
@@ -181,7 +189,7 @@ fn damaged(o: &Oracle, d: &mut Dice, _: u64, c: &mut Check) {
             }
         }
     }
-    read(o, c, d, mode, kind, t, lengths)
+    read(o, c, d, mode, kind, t, lengths);
 }
 
 /// Not finite, or just beyond ±1,000,000: NaNs quiet and signalling and of both signs.

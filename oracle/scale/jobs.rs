@@ -1,6 +1,7 @@
 // A job is one entry with one source of inputs, drawn by their index: the same seed, job and index give the same input whatever the threads.
 use crate::check::{Check, KINDS};
 use crate::inputs::Dice;
+use crate::rivals::Rivals;
 use ion::fec::conv::ConvCode;
 use ion::phy_mfsk::hook::air;
 use std::io::{IsTerminal, Write};
@@ -58,6 +59,7 @@ pub struct Tally {
     /// Inputs with a difference, and the one of the lowest index.
     pub differ: u64,
     pub first: Option<(u64, String)>,
+    pub rivals: Rivals,
 }
 
 impl Tally {
@@ -67,6 +69,7 @@ impl Tally {
         (0..11).for_each(|k| self.refused[k] += c.refused[k]);
         self.numbers += c.numbers;
         self.turned += c.turned as u64;
+        self.rivals.join(&c.rivals);
         if let Some(why) = c.bad {
             self.differ += 1;
             if self.first.as_ref().is_none_or(|f| index < f.0) {
@@ -81,6 +84,7 @@ impl Tally {
         self.numbers += o.numbers;
         self.turned += o.turned;
         self.differ += o.differ;
+        self.rivals.join(&o.rivals);
         if let Some(f) = o.first {
             if self.first.as_ref().is_none_or(|g| f.0 < g.0) {
                 self.first = Some(f);

@@ -11,6 +11,7 @@ mod check;
 mod headers;
 mod jobs;
 mod replay;
+mod rivals;
 mod small;
 mod soft;
 mod table;
@@ -131,6 +132,9 @@ fn main() {
     progress.end();
     table::print(&done);
     println!("(a tracker's inputs are series or states, its answers and refusals are calls)");
+    for (job, t) in done.iter().filter(|(_, t)| t.rivals.out > 0) {
+        println!("{}, {}", job.name(), t.rivals.line());
+    }
     // the counts are what they should be
     for (job, t) in &done {
         if t.inputs != job.inputs {

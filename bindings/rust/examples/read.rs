@@ -1,6 +1,6 @@
 //! Sends a header, reads it back from clean terms and shows a refusal. From the repository's root:
 //!   rt staticlib ion
-//!   cargo run --manifest-path bindings/rust/Cargo.toml --target-dir target/rust --example read
+//!   cargo run --offline --manifest-path bindings/rust/Cargo.toml --target-dir target/rust --example read
 use ion_proved::{Areas, Kind, Mode, Outcome, Refusal, TERMS, header_values, read_header};
 
 /// SplitMix64, for the hop of a symbol (document 01, 'Modes and air order').
@@ -24,7 +24,7 @@ fn main() -> Result<(), Refusal> {
         let bin = (mix64(s as u64 ^ 0x4D46_534B_484F_5000) % 48 + u64::from(value)) % 48;
         terms[TERMS * s + 104 + bin as usize + 2] = 8.0;
     }
-    let mut areas = Areas::new(kind);
+    let mut areas = Areas::new();
     let header = read_header(mode, kind, &terms, &mut areas)?;
     println!("sent {word:016x}, read {:016x}, {:?}", header.word, header.outcome);
     assert_eq!((header.word, header.outcome), (word, Outcome::Sure { score: 8.0 * n as f32, pass: 1 }));

@@ -1,7 +1,11 @@
 //! The proved receiving core of the ion HF modem, in Rust's own manner: slices, enums and `Result` over `include/ion.h`.
 //!
 //! Build the library first: `rt staticlib ion` at the repository's root. Every function takes any input and ends. One that
-//! answers `Err` has written nothing.
+//! answers `Err` has written nothing. No function keeps anything between calls, so any threads may call at once.
+//!
+//! **Terms.** Per symbol five rows of 52 `f32`, row 0 first, place 0 first in each ([`TERMS`]). Each is a natural logarithm: row j,
+//! place e has ln(p(energy at place e | a tone j-2 places below it) / p(energy | noise alone)). Bin b of the mode's grid is place
+//! b + 2. A value's metric is the sum of five terms, one of each row, around its bin's place.
 //!
 //! ```
 //! use ion_proved::{Kind, Mode, Refusal};
@@ -35,8 +39,16 @@ mod sys {
             shifts_len: usize, places: *mut u32, places_len: usize, timings: *mut f64, timings_len: usize, heard: u8, early: f64, late: f64,
             noise: f64,
         ) -> u32;
+        pub fn ion_version_0() -> u32;
     }
 }
+
+/// The number of the last change request that is in; 0 is the base. The library has it in a symbol's name, so a library of another
+/// version does not link.
+pub const VERSION: u32 = 0;
+
+#[used]
+static VERSION_LINKED: unsafe extern "C" fn() -> u32 = sys::ion_version_0;
 
 /// Terms of a symbol: five rows of 52.
 pub const TERMS: usize = 260;
@@ -44,8 +56,16 @@ pub const TERMS: usize = 260;
 pub const VALUES: usize = 32;
 /// States of the header's code.
 pub const STATES: usize = 16_384;
+/// Words of decisions for each header symbol.
+pub const DECISIONS: usize = STATES / 64;
 /// The most bits that soft values are worked out for.
 pub const BITS: u32 = 10_240;
+/// The most bits of a CRC.
+pub const CRC_BITS: usize = 1_024;
+/// The most symbols that a tracker follows.
+pub const CALLS: usize = 2_048;
+/// The most blocks of a fit.
+pub const BLOCKS: usize = 64;
 
 /// The mode of a burst.
 #[derive(Clone, Copy, Debug, PartialEq, Eq, Hash)]
@@ -84,54 +104,57 @@ pub enum Form {
     Symbols = 1,
 }
 
-/// Why nothing was done: document 01's causes that can be met here. Of several causes, the one of the lowest number.
+/// Why nothing was done: document 01's causes. Of several causes, the one of the lowest number.
 #[derive(Clone, Copy, Debug, PartialEq, Eq, Hash)]
-#[repr(u8)]
 #[non_exhaustive]
 pub enum Refusal {
     /// A mode or kind that is not named.
-    Name = 1,
+    Name,
     /// More than 10,240 bits, or a multiplier's length above that.
-    Count = 2,
+    Count,
     /// A window that the mode does not have.
-    Window = 3,
+    Window,
     /// A buffer of another length than stated.
-    Length = 4,
+    Length,
     /// A bit byte above 1.
-    Bit = 5,
+    Bit,
     /// A term that is not finite or lies beyond ±1,000,000.
-    Term = 6,
+    Term,
     /// A blanked count above 255·window.
-    Blanked = 7,
+    Blanked,
     /// A [`Sample::Heard`] value that is not in 0 to 10^9.
-    Sample = 8,
+    Sample,
     /// A tracker that has had its 2,048 symbols.
-    Tracker = 9,
+    Tracker,
     /// Over 64 blocks, or a block out of range or falling.
-    Blocks = 10,
+    Blocks,
+    /// A number that these bindings have no name for. No function of this version answers one.
+    Unnamed(u32),
 }
 
 impl Refusal {
+    const NAMED: [Refusal; 10] = [
+        Refusal::Name, Refusal::Count, Refusal::Window, Refusal::Length, Refusal::Bit, Refusal::Term, Refusal::Blanked, Refusal::Sample,
+        Refusal::Tracker, Refusal::Blocks,
+    ];
+
     /// The number in document 01's table.
-    pub const fn number(self) -> u8 {
-        self as u8
+    ///
+    /// ```
+    /// assert_eq!(ion_proved::Refusal::Blocks.number(), 10);
+    /// ```
+    pub fn number(self) -> u32 {
+        match self {
+            Refusal::Unnamed(number) => number,
+            named => Self::NAMED.iter().zip(1..).find(|(r, _)| **r == named).map_or(0, |(_, number)| number),
+        }
     }
 
     fn told(number: u32) -> Result<(), Refusal> {
-        Err(match number {
-            0 => return Ok(()),
-            1 => Refusal::Name,
-            2 => Refusal::Count,
-            3 => Refusal::Window,
-            4 => Refusal::Length,
-            5 => Refusal::Bit,
-            6 => Refusal::Term,
-            7 => Refusal::Blanked,
-            8 => Refusal::Sample,
-            9 => Refusal::Tracker,
-            10 => Refusal::Blocks,
-            other => unreachable!("no entry here refuses by number {other}"),
-        })
+        match number {
+            0 => Ok(()),
+            k => Err(Self::NAMED.get(k as usize - 1).copied().unwrap_or(Refusal::Unnamed(k))),
+        }
     }
 }
 
@@ -148,6 +171,7 @@ impl fmt::Display for Refusal {
             Refusal::Sample => "an energy or noise not in 0 to 10^9",
             Refusal::Tracker => "2,048 symbols were tracked already",
             Refusal::Blocks => "over 64 blocks, or a block out of range or falling",
+            Refusal::Unnamed(_) => "a number without a name here",
         };
         write!(f, "refused by number {}: {why}", self.number())
     }
@@ -155,14 +179,23 @@ impl fmt::Display for Refusal {
 
 impl std::error::Error for Refusal {}
 
-/// How a header's word was found.
+/// How a header's word was found, and what is proved of it. A good CRC is asked beside every outcome.
+///
+/// Whole terms below are whole numbers from -800 to 800.
 #[derive(Clone, Copy, Debug, PartialEq)]
 pub enum Outcome {
-    /// The best word closed in this pass, 1 to 3. Closed in pass 1, no walk beats it.
+    /// Out by closing in this pass, 1 to 3.
+    ///
+    /// In pass 1, for any terms that are not refused: the score is the word's own, added in f32 as the receiver adds it, and no
+    /// other word has a greater one. For terms within ±2^a, a from 0 to 20, no word's exact score is above the word's by more than
+    /// 2^(a-8): with terms within ±64 no word beats it by more than a quarter of a point. For whole terms none beats it at all.
+    ///
+    /// In pass 2 or 3 it need not be the best word. For whole terms its score is exactly what its symbols earn, in any pass.
     Sure { score: f32, pass: u8 },
-    /// The best closed word that was met on the way.
+    /// The best of the closed words that three passes met on the way: a guess with a score. For whole terms the score is exactly
+    /// what its symbols earn.
     Kept { score: f32 },
-    /// No closed word was met: the best end's word.
+    /// No closed word was met: the word is no header's.
     Open { score: f32 },
 }
 
@@ -173,7 +206,7 @@ pub struct Header {
     pub outcome: Outcome,
 }
 
-/// The work areas of [`read_header`], made once and lent to every read.
+/// The work areas of [`read_header`], made once and lent to every read, of either length.
 #[derive(Clone, Debug)]
 pub struct Areas {
     scores: Vec<f32>,
@@ -183,10 +216,15 @@ pub struct Areas {
 }
 
 impl Areas {
-    /// Areas for headers of this kind's length.
-    pub fn new(kind: Kind) -> Areas {
+    pub fn new() -> Areas {
         let states = vec![0.0; STATES];
-        Areas { scores: states.clone(), next: states.clone(), start: states, decisions: vec![0; kind.header() * STATES / 64] }
+        Areas { scores: states.clone(), next: states.clone(), start: states, decisions: vec![0; Kind::Data.header() * DECISIONS] }
+    }
+}
+
+impl Default for Areas {
+    fn default() -> Areas {
+        Areas::new()
     }
 }
 
@@ -222,18 +260,21 @@ pub fn header_values(mode: Mode, kind: Kind, bits: &[u8], values: &mut [u8]) -> 
 ///
 /// ```
 /// use ion_proved::{read_header, Areas, Kind, Mode, Outcome, Refusal, TERMS};
-/// let mut areas = Areas::new(Kind::Cue);
+/// let mut areas = Areas::new();
 /// let mut terms = vec![0.0; 48 * TERMS];
 /// // all terms equal: word 0 closes in the first pass
 /// let header = read_header(Mode::R0, Kind::Cue, &terms, &mut areas).unwrap();
 /// assert_eq!((header.word, header.outcome), (0, Outcome::Sure { score: 0.0, pass: 1 }));
 /// terms[5] = f32::NAN;
 /// assert_eq!(read_header(Mode::R0, Kind::Cue, &terms, &mut areas), Err(Refusal::Term));
-/// // areas made for another length
+/// // terms of a header with 48 symbols, where there should be 64
 /// assert_eq!(read_header(Mode::R0, Kind::Data, &terms, &mut areas), Err(Refusal::Length));
+/// // the same areas serve either length
+/// assert_eq!(read_header(Mode::R0, Kind::Data, &[0.0; 64 * TERMS], &mut areas).unwrap().word, 0);
 /// ```
 pub fn read_header(mode: Mode, kind: Kind, terms: &[f32], areas: &mut Areas) -> Result<Header, Refusal> {
     let Areas { scores, next, start, decisions } = areas;
+    let decisions = &mut decisions[..kind.header() * DECISIONS];
     let (mut word, mut outcome, mut pass, mut score) = (0, 0, 0, 0.0);
     // SAFETY: every slice is told with its own length; they and the four places cannot overlap.
     Refusal::told(unsafe {
@@ -250,14 +291,16 @@ pub fn read_header(mode: Mode, kind: Kind, terms: &[f32], areas: &mut Areas) -> 
     Ok(Header { word, outcome })
 }
 
-/// Metrics ([`VALUES`] a symbol, each in -40..0) and soft bits (each in -12..12) of a burst's data.
+/// Metrics ([`VALUES`] a symbol, each in -40..0, relative to the symbol's greatest) and soft bits (each in -12..12) of a burst's data. A soft
+/// bit is ln(p(bit is 0) / p(bit is 1)): above 0 the bit is rather 0.
 #[derive(Clone, Debug, PartialEq)]
 pub struct Soft {
     pub metrics: Vec<f32>,
     pub bits: Vec<f32>,
 }
 
-/// Soft values of `bits` bits in ceil(bits/5) symbols: [`TERMS`] terms and one blanked count a symbol.
+/// Soft values of `bits` bits in ceil(bits/5) symbols: [`TERMS`] terms and one blanked count a symbol, which is the number of blanked audio
+/// samples among the 7·window behind the symbol's window. A symbol with more than half of them blanked is erased.
 ///
 /// ```
 /// use ion_proved::{soft_values, Form, Kind, Mode, Refusal, TERMS};
@@ -282,7 +325,7 @@ pub fn soft_values(mode: Mode, kind: Kind, form: Form, window: u32, bits: u32, t
     Ok(soft)
 }
 
-/// A block of symbols: twice its place, 0 to 4,096, and its timing in samples, within ±4,096.
+/// A block of symbols: twice its place, counted in symbols, 0 to 4,096, and its timing in samples, within ±4,096.
 #[derive(Clone, Copy, Debug, PartialEq)]
 pub struct Block {
     pub place2: u32,
@@ -311,7 +354,8 @@ pub fn fit_drift(mode: Mode, blocks: &[Block]) -> Result<f64, Refusal> {
 /// What was heard of one symbol.
 #[derive(Clone, Copy, Debug, PartialEq)]
 pub enum Sample {
-    /// Energy of the early gate, of the late gate, and the noise, each in 0 to 10^9.
+    /// The tone's energy in a window some samples before the symbol's and in one some samples after it, and what of it is expected
+    /// to be noise, all in one unit, each in 0 to 10^9.
     Heard { early: f64, late: f64, noise: f64 },
     Missed,
 }

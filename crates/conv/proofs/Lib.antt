@@ -3,3 +3,4 @@ pub mod Linear
 pub mod Closed
 pub mod Slots
 pub mod Refused
+pub mod Bits

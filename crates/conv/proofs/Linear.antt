@@ -42,7 +42,7 @@ and-digit (suc (suc g)) r s hg hr hs = absurd (omega arith)
 mod-sum : (x y : ℕ) → (x + y) % 2 ≡ (x % 2 + y % 2) % 2
 mod-sum x y = omega arith
 
-mod-sums : (a b c d : ℕ) → ((a + b) % 2 + (c + d) % 2) % 2 ≡ ((a + c) % 2 + (b + d) % 2) % 2
+pub mod-sums : (a b c d : ℕ) → ((a + b) % 2 + (c + d) % 2) % 2 ≡ ((a + c) % 2 + (b + d) % 2) % 2
 mod-sums a b c d =
     let same : a + b + (c + d) ≡ a + c + (b + d) = omega arith in
     sym (mod-sum (a + b) (c + d)) ∙ ap (λ (x : ℕ). x % 2) same ∙ mod-sum (a + c) (b + d)

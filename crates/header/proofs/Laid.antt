@@ -55,22 +55,22 @@ module _ (mode kind : ℕ) (terms list : List Float) (rows : Rows mode kind term
   part-steps = omega (arith, part-length)
 
   -- what the search is lent
-  pub part-lent : {ends second start : List Float} {decisions : List ℕ} → Room kind (areas ends second start decisions) → Lent part ends second start decisions
+  pub part-lent : {scores next start : List Float} {decisions : List ℕ} → Room kind (areas scores next start decisions) → Lent part scores next start decisions
   part-lent room =
       record {
         steps = record { whole = omega (arith, part-length, part-steps); few = omega (arith, part-steps, header-most kind) };
-        of-ends = room .of-ends;
-        of-second = room .of-second;
+        of-ends = room .of-scores;
+        of-second = room .of-next;
         of-start = room .of-start;
         of-decisions = room .of-decisions ∙ ap (λ (k : ℕ). k * 256) (sym part-steps);
       }
 
   -- and hands back
-  pub lent-room : {ends second start : List Float} {decisions : List ℕ} → Lent part ends second start decisions → Room kind (areas ends second start decisions)
+  pub lent-room : {scores next start : List Float} {decisions : List ℕ} → Lent part scores next start decisions → Room kind (areas scores next start decisions)
   lent-room lent =
       record {
-        of-ends = lent .of-ends;
-        of-second = lent .of-second;
+        of-scores = lent .of-ends;
+        of-next = lent .of-second;
         of-start = lent .of-start;
         of-decisions = lent .of-decisions ∙ ap (λ (k : ℕ). k * 256) part-steps;
       }

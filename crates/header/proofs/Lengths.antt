@@ -17,19 +17,19 @@ first a b e = and-eq-true-iff a b .0 e .0
 rest : (a b : Bool) → (a && b) ≡ true → b ≡ true
 rest a b e = and-eq-true-iff a b .0 e .1
 
-module _ (kind terms : ℕ) (ends second start : List Float) (decisions : List ℕ)
-    (right : lengthsRight kind terms (length ends) (length second) (length start) (length decisions) ≡ true) where
+module _ (kind terms : ℕ) (scores next start : List Float) (decisions : List ℕ)
+    (right : lengthsRight kind terms (length scores) (length next) (length start) (length decisions) ≡ true) where
   pub terms-right : terms ≡ headerBits kind * 260
   terms-right = eqb-true _ _ (first _ _ right)
 
-  pub room-right : Room kind (areas ends second start decisions)
+  pub room-right : Room kind (areas scores next start decisions)
   room-right =
       let two = rest (eqb terms (headerBits kind * 260)) _ right in
-      let three = rest (eqb (length ends) 16384) _ two in
-      let four = rest (eqb (length second) 16384) _ three in
+      let three = rest (eqb (length scores) 16384) _ two in
+      let four = rest (eqb (length next) 16384) _ three in
       record {
-        of-ends = eqb-true _ _ (first _ _ two);
-        of-second = eqb-true _ _ (first _ _ three);
+        of-scores = eqb-true _ _ (first _ _ two);
+        of-next = eqb-true _ _ (first _ _ three);
         of-start = eqb-true _ _ (first _ _ four);
         of-decisions = eqb-true _ _ (rest (eqb (length start) 16384) _ four);
       }

@@ -33,30 +33,30 @@ meaning (Refused k) = refused k
 
 -- work areas: three of 16,384 f32, one of 256 u64 a step
 pub record Areas : Type 0 where
-  pub ends : List Float
-  pub second : List Float
+  pub scores : List Float
+  pub next : List Float
   pub start : List Float
   pub decisions : List ℕ
 
 abbrev pub areas : List Float → List Float → List Float → List ℕ → Areas
-areas ends second start decisions = record { ends = ends; second = second; start = start; decisions = decisions }
+areas scores next start decisions = record { scores = scores; next = next; start = start; decisions = decisions }
 
 -- the areas have these lengths
 pub record Room (kind : ℕ) (w : Areas) : Type 0 where
-  pub of-ends : length (w .ends) ≡ 16384
-  pub of-second : length (w .second) ≡ 16384
+  pub of-scores : length (w .scores) ≡ 16384
+  pub of-next : length (w .next) ≡ 16384
   pub of-start : length (w .start) ≡ 16384
   pub of-decisions : length (w .decisions) ≡ headerBits kind * 256
 
 -- terms: per symbol five rows of 52; areas: three of 16,384, one of 256 a step
 abbrev pub lengthsRight : ℕ → ℕ → ℕ → ℕ → ℕ → ℕ → Bool
-lengthsRight kind terms ends second start decisions =
-    eqb terms (headerBits kind * 260) && (eqb ends 16384 && (eqb second 16384 && (eqb start 16384 && eqb decisions (headerBits kind * 256))))
+lengthsRight kind terms scores next start decisions =
+    eqb terms (headerBits kind * 260) && (eqb scores 16384 && (eqb next 16384 && (eqb start 16384 && eqb decisions (headerBits kind * 256))))
 
 abbrev pub causes : ℕ → ℕ → List Float → Areas → List Cause
 causes mode kind terms w =
     (record { holds = not (named mode kind); number = 1 })
-    ∷ (record { holds = not (lengthsRight kind (length terms) (length (w .ends)) (length (w .second)) (length (w .start)) (length (w .decisions))); number = 4 })
+    ∷ (record { holds = not (lengthsRight kind (length terms) (length (w .scores)) (length (w .next)) (length (w .start)) (length (w .decisions))); number = 4 })
     ∷ (record { holds = someOut terms; number = 6 })
     ∷ []
 

@@ -1,17 +1,16 @@
 // The header read: terms to metrics, the search over lent areas, the answer, the refusals. Its promise
-// carries demand 3. Definitions in specs/ and in crate trellis.
+// carries demand 3 and what holds for any terms. Definitions in specs/ and in crate trellis.
 ghost use mathlib.Core.Path.{_≡_};
 ghost use mathlib.Core.Bool.{false};
 ghost use Prim.Native.Nat.{ℕ, _+_, _*_, _<_};
-ghost use lib.IntN.{ℤ};
 ghost use lib.Ieee.{nan};
 ghost use lib.ListN.{length, getD, replicate};
 ghost use Rattle.util.specs.Table.{Stored};
 ghost use Rattle.ieee.specs.Whole.{plusZero};
 ghost use Rattle.frame.specs.Format.{headerBits};
 ghost use Rattle.trellis.specs.Answer.{Answer, outcomeOf};
-ghost use Rattle.trellis.specs.Terms.{WholeTerms, documentSearch};
-ghost use Rattle.trellis.specs.Demand.{Demand3, AnyTerms};
+ghost use Rattle.trellis.specs.Terms.{documentSearch};
+ghost use Rattle.trellis.specs.Demand.{Claims};
 ghost use Rattle.search.specs.Found.{way};
 ghost use Rattle.header.specs.Rows.{Row, Rows};
 ghost use Rattle.header.specs.Read.{meaning, outcomeIs, answerIs, Room, areas, lengthsRight, headerRead, areaAfter};
@@ -86,19 +85,19 @@ fn searched(
     mode: u8,
     kind: u8,
     terms: &[f32],
-    ends: &mut [f32],
-    second: &mut [f32],
+    scores: &mut [f32],
+    next: &mut [f32],
     start: &mut [f32],
     decisions: &mut [u64],
 ) -> HeaderAnswer
-    requires { ⌜ (length (now terms) ≡ headerBits kind * 260) × Room kind (areas (now ends) (now second) (now start) (now decisions)) ⌝ }
+    requires { ⌜ (length (now terms) ≡ headerBits kind * 260) × Room kind (areas (now scores) (now next) (now start) (now decisions)) ⌝ }
     ensures { λ r. ⌜ answerIs r ≡ documentSearch mode kind (now (terms .entry)) ⌝ }
-    ensures room { λ _. ⌜ Room kind (areas (now (ends .exit)) (now (second .exit)) (now (start .exit)) (now (decisions .exit))) ⌝ }
+    ensures room { λ _. ⌜ Room kind (areas (now (scores .exit)) (now (next .exit)) (now (start .exit)) (now (decisions .exit))) ⌝ }
 {
     let mut list = [0.0f32; 2048];
     rows(mode, kind, terms, &mut list);
     let n = frame::header_symbols(kind) as usize;
-    let found = search::search(&list[..32 * n], ends, second, start, decisions);
+    let found = search::search(&list[..32 * n], scores, next, start, decisions);
     let how = found.how;
     HeaderAnswer {
         word: found.word,
@@ -107,30 +106,30 @@ fn searched(
 }
 
 // Leaves the areas as zeros.
-fn cleared(ends: &mut [f32], second: &mut [f32], start: &mut [f32], decisions: &mut [u64])
-    ensures of_ends { λ _. ⌜ now (ends .exit) ≡ replicate (length (now (ends .entry))) plusZero ⌝ }
-    ensures of_second { λ _. ⌜ now (second .exit) ≡ replicate (length (now (second .entry))) plusZero ⌝ }
+fn cleared(scores: &mut [f32], next: &mut [f32], start: &mut [f32], decisions: &mut [u64])
+    ensures of_scores { λ _. ⌜ now (scores .exit) ≡ replicate (length (now (scores .entry))) plusZero ⌝ }
+    ensures of_next { λ _. ⌜ now (next .exit) ≡ replicate (length (now (next .entry))) plusZero ⌝ }
     ensures of_start { λ _. ⌜ now (start .exit) ≡ replicate (length (now (start .entry))) plusZero ⌝ }
     ensures of_decisions { λ _. ⌜ now (decisions .exit) ≡ replicate (length (now (decisions .entry))) 0 ⌝ }
 {
-    search::clear(ends);
-    search::clear(second);
+    search::clear(scores);
+    search::clear(next);
     search::clear(start);
     search::clear_decisions(decisions);
 }
 
 // Whether the terms and the areas have the lengths of a header of this kind.
-fn room(kind: u8, terms: usize, ends: usize, second: usize, start: usize, decisions: usize) -> bool
-    ensures { λ r. ⌜ r ≡ lengthsRight kind terms ends second start decisions ⌝ }
+fn room(kind: u8, terms: usize, scores: usize, next: usize, start: usize, decisions: usize) -> bool
+    ensures { λ r. ⌜ r ≡ lengthsRight kind terms scores next start decisions ⌝ }
 {
     let n = frame::header_symbols(kind) as usize;
     if terms != n * 260 {
         return false;
     }
-    if ends != 16384 {
+    if scores != 16384 {
         return false;
     }
-    if second != 16384 {
+    if next != 16384 {
         return false;
     }
     if start != 16384 {
@@ -139,24 +138,23 @@ fn room(kind: u8, terms: usize, ends: usize, second: usize, start: usize, decisi
     decisions == n * 256
 }
 
-// Public entry: the header read (document 01, 'A header read'), with demand 3 as `whole`, and as `any`
-// what holds of it for every read that is not refused.
+// Public entry: the header read (document 01, 'A header read'). `claims` has demand 3, for whole terms from
+// -800 to 800, and what holds of every read that is not refused.
 pub fn read_header(
     mode: u8,
     kind: u8,
     terms: &[f32],
-    ends: &mut [f32],
-    second: &mut [f32],
+    scores: &mut [f32],
+    next: &mut [f32],
     start: &mut [f32],
     decisions: &mut [u64],
 ) -> HeaderRead
-    ensures answer { λ r. ⌜ meaning r ≡ headerRead mode kind (now (terms .entry)) (areas (now (ends .entry)) (now (second .entry)) (now (start .entry)) (now (decisions .entry))) ⌝ }
-    ensures of_ends { λ r. ⌜ now (ends .exit) ≡ areaAfter (meaning r) plusZero (now (ends .entry)) ⌝ }
-    ensures of_second { λ r. ⌜ now (second .exit) ≡ areaAfter (meaning r) plusZero (now (second .entry)) ⌝ }
+    ensures answer { λ r. ⌜ meaning r ≡ headerRead mode kind (now (terms .entry)) (areas (now (scores .entry)) (now (next .entry)) (now (start .entry)) (now (decisions .entry))) ⌝ }
+    ensures of_scores { λ r. ⌜ now (scores .exit) ≡ areaAfter (meaning r) plusZero (now (scores .entry)) ⌝ }
+    ensures of_next { λ r. ⌜ now (next .exit) ≡ areaAfter (meaning r) plusZero (now (next .entry)) ⌝ }
     ensures of_start { λ r. ⌜ now (start .exit) ≡ areaAfter (meaning r) plusZero (now (start .entry)) ⌝ }
     ensures of_decisions { λ r. ⌜ now (decisions .exit) ≡ areaAfter (meaning r) 0 (now (decisions .entry)) ⌝ }
-    ensures whole { λ r. ⌜ ((ints : ℕ → ℤ) → WholeTerms 800 (now (terms .entry)) ints → (a : HeaderAnswer) → r ≡ HeaderRead.Answer a → Demand3 mode kind ints (now (terms .entry)) (answerIs a)) ⌝ }
-    ensures any { λ r. ⌜ ((a : HeaderAnswer) → r ≡ HeaderRead.Answer a → AnyTerms mode kind (now (terms .entry)) (answerIs a)) ⌝ }
+    ensures claims { λ r. ⌜ ((a : HeaderAnswer) → r ≡ HeaderRead.Answer a → Claims mode kind (now (terms .entry)) (answerIs a)) ⌝ }
 {
     if !frame::is_named(mode, kind) {
         return HeaderRead::Refused(1);
@@ -164,8 +162,8 @@ pub fn read_header(
     if !room(
         kind,
         terms.len(),
-        ends.len(),
-        second.len(),
+        scores.len(),
+        next.len(),
         start.len(),
         decisions.len(),
     ) {
@@ -174,7 +172,7 @@ pub fn read_header(
     if model::some_out(terms) {
         return HeaderRead::Refused(6);
     }
-    let answer = searched(mode, kind, terms, ends, second, start, decisions);
-    cleared(ends, second, start, decisions);
+    let answer = searched(mode, kind, terms, scores, next, start, decisions);
+    cleared(scores, next, start, decisions);
     HeaderRead::Answer(answer)
 }

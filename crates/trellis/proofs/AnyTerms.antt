@@ -29,7 +29,8 @@ use Rattle.trellis.specs.Demand.{AnyTerms}
 use Rattle.trellis.proofs.Best.{Ranked}
 use Rattle.trellis.proofs.Handed.{search-short}
 use Rattle.trellis.proofs.Metric.{step-within}
-use Rattle.trellis.proofs.Demand.{exact-first, optimal, unique, score-is, first-is, header-long}
+use Rattle.trellis.proofs.Sent.{sent-in-steps}
+use Rattle.trellis.proofs.Demand.{exact-first, optimal, unique, score-is, first-is, best-word, header-long}
 
 -- what j steps can earn: a value of f32 of at most 5 j terms, each within 2^20
 record Earned (j : ℕ) (x : Float) : Type 0 where
@@ -81,12 +82,13 @@ module _ (mode kind : ℕ) (terms : List Float) (all : length terms ≡ 260 * he
   any-terms =
       record {
         short = search-short (header single mode kind (lent terms));
-        given = refl;
         exact = λ o.
             score-is (F .how) (F .score)
             ∙ sym (exact-first single 14 (lit< tt) (headerBits kind) (header-long kind) earn ranked (first-is (F .how) (F .score) o));
-        optimal = λ o p w hp _. optimal single 14 (lit< tt) (headerBits kind) (header-long kind) earn ranked (first-is (F .how) (F .score) o) hp w;
-        unique = λ w _ beats.
+        sent = sent-in-steps single mode kind (lent terms);
+        best = best-word single mode kind (lent terms)
+            (λ o p w hp _. optimal single 14 (lit< tt) (headerBits kind) (header-long kind) earn ranked (first-is (F .how) (F .score) o) hp w)
+            (λ w _ beats.
             let u = unique single 14 (lit< tt) (headerBits kind) (header-long kind) earn ranked w beats in
-            (u .0, (F .score, ap (λ (i : How). outcomeOf i (F .score)) (u .1)));
+            (u .0, (F .score, ap (λ (i : How). outcomeOf i (F .score)) (u .1))));
       }

@@ -11,10 +11,11 @@ use Rattle.util.specs.Choose.{choose}
 use Rattle.ieee.specs.Whole.{run}
 use Rattle.conv.specs.Encoder.{register, state, walkRegister, bit}
 use Rattle.conv.proofs.Closed.{state-below}
+use Rattle.conv.proofs.Bits.{state-cong}
 use Rattle.trellis.specs.Scale.{Scale, highest}
 use Rattle.trellis.specs.Trellis.{Trellis}
 use Rattle.trellis.specs.Search.{cameBy, traceStart, traceWord, brings, upper, step, scores, decision, final, endState}
-use Rattle.trellis.proofs.Paths.{state-cong, register-came, bit-lt, trace-bit, trace-register, before, before-lt}
+use Rattle.trellis.proofs.Paths.{register-came, bit-lt, trace-bit, trace-register, before, before-lt}
 
 -- What is asked of a trellis: an order `le` of its numbers that each step keeps, and that the test decides on those that can be scores. `ok j a`
 -- says that a can be a score after j steps. No sum need be exact.

@@ -1,6 +1,6 @@
 -- The premise of (iv) at full size: where in every symbol the term of value 0's bin is 1 and every other term 0, the closed word 0 scores more
 -- than every other walk, in either mode and for every kind, over ℤ and in f32, and exactly by more than rounding loses. So it is handed out, by
--- closing in the first pass. Assumes nothing.
+-- closing in the first pass; and so it is where that term is a half, and no whole number. Assumes nothing.
 use Prim.Native.Nat.{ℕ, zero, suc, _+_, _*_, _-_, _/_, _%_, _^_, _≤_, _<_}
 use mathlib.Core.Path.{_≡_, refl, sym, ap, ap₂, _∙_, subst, subst₂}
 use mathlib.Core.Bool.{Bool, true, false}
@@ -12,12 +12,18 @@ use native.Mathlib.Omega.{arith}
 use borrow.Author.Tests.{eq-eqb, ne-eqb}
 use lib.Count.{onesIn}
 use lib.Dec.{T, eqb, lit<, lit≤, lt→ltb}
-use lib.IntN.{ℤ, pos, natAbs, _+ℤ_, _*ℤ_, +ℤ-idl, +ℤ-idr}
+use lib.IntN.{ℤ, pos, negsuc, natAbs, _+ℤ_, _*ℤ_, +ℤ-idl, +ℤ-idr}
 use lib.Pow.{pow-pos}
 use lib.Signed.{_<ℤ_}
-use lib.Ieee.{Float, lt}
-use Rattle.ieee.specs.Whole.{run}
+use lib.ListN.{length}
+use lib.Ieee.{Float, nan, fin, lt, le}
+use Rattle.ieee.specs.Whole as Whole
+use Rattle.ieee.specs.Whole.{plusZero, run}
+use Rattle.ieee.specs.Units.{Units, units}
 use Rattle.util.specs.Choose.{choose}
+use Rattle.util.specs.Table.{tabled}
+use Rattle.util.proofs.Fill.{tabled-length, tabled-at}
+use Rattle.util.proofs.Some.{none-where}
 use Rattle.frame.specs.Format.{formatOf, headerBits}
 use Rattle.frame.specs.Air.{hopOf, slotOf}
 use Rattle.frame.proofs.Air.{some-bins, bin-below, bins-differ, header-least}
@@ -25,13 +31,15 @@ use Rattle.conv.specs.Label.{labelOf}
 use Rattle.conv.specs.Encoder.{register, state, walkRegister, made, bit}
 use Rattle.conv.proofs.Linear.{label-lt, computed, label-computed}
 use Rattle.model.specs.Metric.{termAt, metricOf}
+use Rattle.model.specs.Range.{outOfRange, someOut}
 use Rattle.trellis.specs.Scale.{sum}
 use Rattle.trellis.specs.Answer.{OutInFirstPass}
 use Rattle.trellis.specs.Numbers.{single, whole}
 use Rattle.trellis.specs.Terms.{placeIn, metric, lent, documentSearch, WholeTerms, UnitTerms}
-use Rattle.trellis.specs.Demand.{walk, closed, Another}
+use Rattle.trellis.specs.Demand.{walk, closed, Another, margin}
 use Rattle.trellis.proofs.Demand.{demand-3, walks-less}
-use Rattle.trellis.proofs.Guards.{values, listOf-length, any-whole}
+use Rattle.trellis.proofs.NearExact.{near-exact}
+use Rattle.trellis.proofs.Guards.{values, any-whole}
 use Rattle.trellis.proofs.Scaled.{times, walk-times, whole-units}
 use Rattle.trellis.proofs.Silent.{only-zeros}
 
@@ -218,28 +226,73 @@ module _ (mode kind : ℕ) where
   -- so the read hands it out
   pub zero-out : (documentSearch mode kind terms .word ≡ 0) × OutInFirstPass (documentSearch mode kind terms .outcome)
   zero-out =
-      demand-3 mode kind terms ints (listOf-length _ (260 * headerBits kind)) clean-whole .unique 0 (pow-pos (headerBits kind)) zero-beats
+      demand-3 mode kind terms ints (tabled-length (260 * headerBits kind) _) clean-whole .best .unique 0 (pow-pos (headerBits kind)) zero-beats
 
   -- it does so in f32 too: the premise of `AnyTerms`
   pub zero-beats-single : (p v : ℕ) → p < 16384 → v < 2 ^ headerBits kind → Another kind 0 p v
       → T (lt (walk single mode kind (lent terms) p v) (closed single mode kind (lent terms) 0))
   zero-beats-single p v hp hv other =
-      subst T (sym (walks-less mode kind terms ints (listOf-length _ (260 * headerBits kind)) clean-whole p v (made (bit 0) (headerBits kind) 14) 0))
+      subst T (sym (walks-less mode kind terms ints (tabled-length (260 * headerBits kind) _) clean-whole p v (made (bit 0) (headerBits kind) 14) 0))
       (zero-beats p v hp hv other .lt)
 
-  -- and by so much that no rounding could hide it: the premise of `NearExact`, with a = 0
+  -- those terms are whole numbers of units too
   pub clean-units : UnitTerms 0 terms (times (2 ^ 149) ints)
   clean-units = whole-units {b = 1} 0 (record { whole = clean-whole .whole; small = λ i l. clean-small (formatOf mode .bins) i }) (lit≤ tt)
 
-  pub zero-beats-exact : (p v : ℕ) → p < 16384 → v < 2 ^ headerBits kind → Another kind 0 p v
-      → (walk whole mode kind (times (2 ^ 149) ints) p v +ℤ pos (2 ^ (0 + 149 - 8))) <ℤ closed whole mode kind (times (2 ^ 149) ints) 0
+  -- and by so much that no rounding could hide it: the premise of `NearExact` with a = 0, for terms w units high where w is more than the margin
+  pub zero-beats-exact : (w : ℕ) → margin 0 < w → (p v : ℕ) → p < 16384 → v < 2 ^ headerBits kind → Another kind 0 p v
+      → (walk whole mode kind (times w ints) p v +ℤ pos (margin 0)) <ℤ closed whole mode kind (times w ints) 0
   unfolding earned Below
-  zero-beats-exact p v hp hv other =
+  zero-beats-exact w more p v hp hv other =
       let (k, l, e) = misses p v hp hv other in
-      subst₂ (λ (x y : ℤ). (x +ℤ pos (2 ^ (0 + 149 - 8))) <ℤ y)
-      (sym (walk-times mode kind (2 ^ 149) ints p v ∙ ap (λ (z : ℤ). pos (2 ^ 149) *ℤ z) e))
-      (sym (walk-times mode kind (2 ^ 149) ints (made (bit 0) (headerBits kind) 14) 0 ∙ ap (λ (z : ℤ). pos (2 ^ 149) *ℤ z) closed-zero))
-      (far k (headerBits kind) (2 ^ 149) (2 ^ (0 + 149 - 8)) l (lit< tt))
+      subst₂ (λ (x y : ℤ). (x +ℤ pos (margin 0)) <ℤ y)
+      (sym (walk-times mode kind w ints p v ∙ ap (λ (z : ℤ). pos w *ℤ z) e))
+      (sym (walk-times mode kind w ints (made (bit 0) (headerBits kind) 14) 0 ∙ ap (λ (z : ℤ). pos w *ℤ z) closed-zero))
+      (far k (headerBits kind) w (margin 0) l more)
     where
       far : (k n w d : ℕ) → k < n → d < w → (pos w *ℤ pos k +ℤ pos d) <ℤ (pos w *ℤ pos n)
       far k n w d h l = record { lt = lt→ltb (w * k + d) (w * n) (omega (arith, mul-le-mul-right w h)) }
+
+  -- ---- terms that are not whole: a half where the term is 1
+
+  abbrev one-at : ℕ → Bool
+  one-at i = eqb (i % 260) (104 + placeIn (formatOf mode .bins) (i / 260) 0)
+
+  pub half : ℕ → Float
+  half i = choose (one-at i) (fin false 1 (negsuc 0)) plusZero
+
+  abbrev pub halves : List Float
+  halves = tabled (260 * headerBits kind) half
+
+  half-at : (i : ℕ) → i < length halves → lent halves i ≡ half i
+  half-at i h = tabled-at (260 * headerBits kind) i half nan (subst (λ (n : ℕ). i < n) (tabled-length (260 * headerBits kind) half) h)
+
+  pub halves-units : UnitTerms 0 halves (times (2 ^ 148) ints)
+  unfolding half clean
+  halves-units = record { units = λ i h. rw (half-at i h) (unit (one-at i)); small = λ i h. small (one-at i) }
+    where
+      unit : (c : Bool) → Units 149 (choose c (fin false 1 (negsuc 0)) plusZero) (pos (2 ^ 148) *ℤ choose c (pos 1) (pos 0))
+      unit true = units false 1 (negsuc 0) (2 ^ 148) refl
+      unit false = units false 0 (pos 0) 0 refl
+
+      small : (c : Bool) → natAbs (pos (2 ^ 148) *ℤ choose c (pos 1) (pos 0)) ≤ 2 ^ (0 + 149)
+      small true = lit≤ tt
+      small false = lit≤ tt
+
+  halves-in : someOut halves ≡ false
+  unfolding half le
+  halves-in = none-where outOfRange halves nan (λ i h. rw (half-at i h) (in-range (one-at i)))
+    where
+      in-range : (c : Bool) → outOfRange (choose c (fin false 1 (negsuc 0)) plusZero) ≡ false
+      in-range true = refl
+      in-range false = refl
+
+  -- the read of them hands out word 0, by closing in the first pass
+  pub halves-out : (documentSearch mode kind halves .word ≡ 0) × OutInFirstPass (documentSearch mode kind halves .outcome)
+  halves-out =
+      near-exact mode kind 0 halves (times (2 ^ 148) ints) (tabled-length (260 * headerBits kind) half) halves-units (lit≤ tt) halves-in .best .unique 0
+      (pow-pos (headerBits kind)) (zero-beats-exact (2 ^ 148) (lit< tt))
+
+-- a half is no whole number
+pub half-broken : (z : ℤ) → Whole.Whole (fin false 1 (negsuc 0)) z → ⊥
+half-broken z (Whole.whole s m e k p) = omega arith

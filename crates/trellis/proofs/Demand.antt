@@ -17,18 +17,19 @@ use Rattle.conv.proofs.Closed.{made-below, ends-made, closed}
 use Rattle.trellis.specs.Scale.{Scale}
 use Rattle.trellis.specs.Trellis.{Trellis, walkScore, closedScore}
 use Rattle.trellis.specs.Search.{How, closing, candidate, unclosed, Found, search}
-use Rattle.trellis.specs.Answer.{Outcome, Sure, Kept, Open, outcomeOf, scoreIn, HandedOutAsClosed, OutInFirstPass}
+use Rattle.trellis.specs.Answer.{Answer, Outcome, Sure, Kept, Open, outcomeOf, scoreIn, HandedOutAsClosed, OutInFirstPass}
 use Rattle.trellis.specs.Numbers.{single, whole}
 use Rattle.trellis.specs.Terms.{header, lent, documentSearch, WholeTerms}
 use Rattle.trellis.specs.Demand as Demand
-use Rattle.trellis.specs.Demand.{walk, Demand3}
+use Rattle.trellis.specs.Demand.{walk, Another, BestWord, Demand3}
 use Rattle.trellis.proofs.Paths.{bit-lt}
 use Rattle.trellis.proofs.Best.{Ranked}
-use Rattle.trellis.proofs.Handed.{Closing, Group, search-short, search-exact, first-exact, search-optimal, search-unique}
+use Rattle.trellis.proofs.Handed.{Closing, Group, search-exact, first-exact, search-optimal, search-unique}
 use Rattle.trellis.proofs.Integers.{group, ranked}
 use Rattle.trellis.proofs.Alike.{Same, SamePass}
 use Rattle.trellis.proofs.Exact.{Stands, Term, follows-whole}
 use Rattle.trellis.proofs.Metric.{header-pass, header-alike, walk-alike}
+use Rattle.trellis.proofs.Sent.{sent-earns}
 
 -- ---- the search over any kind of score, with 2 ^ K states and K steps or more
 
@@ -85,6 +86,21 @@ not-open h x c e = c x (ap (λ (i : How). outcomeOf i x) e)
 
 -- ---- the header read
 
+-- a closed word is a walk too, so what is at least every walk is at least every word
+pub best-word : {A : Type 0} (S : Scale A) {atMost less : A → A → Type 0} (mode kind : ℕ) (terms : ℕ → A) {a : Answer Float}
+    → (OutInFirstPass (a .outcome) → (p w : ℕ) → p < 16384 → w < 2 ^ headerBits kind
+    → atMost (walk S mode kind terms p w) (Demand.closed S mode kind terms (a .word)))
+    → ((w : ℕ) → w < 2 ^ headerBits kind
+    → ((p v : ℕ) → p < 16384 → v < 2 ^ headerBits kind → Another kind w p v → less (walk S mode kind terms p v) (Demand.closed S mode kind terms w))
+    → (a .word ≡ w) × OutInFirstPass (a .outcome))
+    → BestWord S atMost less mode kind terms a
+best-word S mode kind terms optimal unique =
+    record {
+      optimal = optimal;
+      unbeaten = λ o w h. optimal o (made (bit w) (headerBits kind) 14) w (made-below (bit w) (bit-lt w) (headerBits kind) 14) h;
+      unique = unique;
+    }
+
 pub header-long : (kind : ℕ) → 14 ≤ headerBits kind
 header-long kind = omega (arith, header-least kind)
 
@@ -125,14 +141,14 @@ module _ (mode kind : ℕ) (terms : List Float) (ints : ℕ → ℤ) (all : leng
   pub demand-3 : Demand3 mode kind ints terms (documentSearch mode kind terms)
   demand-3 =
       record {
-        short = search-short (header single mode kind (lent terms));
         given = refl;
         exact = λ c. rw (score-is (F .how) (F .score), closed-score (not-open (F .how) (F .score) c)) (same .score .whole);
-        optimal = λ o p w hp _.
-            let e = first-is (F .how) (F .score) o in
+        sent = sent-earns mode kind ints;
+        best = best-word whole mode kind ints
+            (λ o p w hp _.
             subst (λ (v : ℕ). walk whole mode kind ints p w ≤ℤ Demand.closed whole mode kind ints v) (sym (same .word))
-            (optimal whole 14 (lit< tt) (headerBits kind) (header-long kind) earnZ ranked (sym (same .how) ∙ e) hp w);
-        unique = λ w _ beats.
+            (optimal whole 14 (lit< tt) (headerBits kind) (header-long kind) earnZ ranked (sym (same .how) ∙ first-is (F .how) (F .score) o) hp w))
+            (λ w _ beats.
             let u = unique whole 14 (lit< tt) (headerBits kind) (header-long kind) earnZ ranked w (λ p v hp hv other. beats p v hp hv other .lt) in
-            (same .word ∙ u .0, (F .score, ap (λ (i : How). outcomeOf i (F .score)) (same .how ∙ u .1)));
+            (same .word ∙ u .0, (F .score, ap (λ (i : How). outcomeOf i (F .score)) (same .how ∙ u .1))));
       }

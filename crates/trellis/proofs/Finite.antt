@@ -3,6 +3,7 @@
 use Prim.Native.Nat.{ℕ, _*_, _^_, _≤_, _<_}
 use mathlib.Core.Path.{_≡_, refl, sym, ap₂, subst}
 use mathlib.Core.List.{List}
+use mathlib.Core.Bool.{true, false}
 use native.Mathlib.Nat.{le-refl, mul-le-mul-right}
 use native.Mathlib.Omega.{arith}
 use lib.Dec.{T, lit≤}
@@ -10,15 +11,22 @@ use lib.ListN.{length}
 use lib.Ieee as Ieee
 use lib.Ieee.{Float, binary32, fits}
 use Rattle.ieee.specs.Size.{Upto, Score}
+use Rattle.ieee.specs.Within.{Within}
 use Rattle.ieee.proofs.Sizes.{upto-within}
 use Rattle.ieee.proofs.Zeros.{score-zero, score-wider, score-add, score-sub}
 use Rattle.frame.specs.Format.{headerBits}
+use Rattle.model.specs.Range.{million}
 use Rattle.trellis.specs.Trellis.{Trellis}
 use Rattle.trellis.specs.Search.{scores, gainOf, begin, search}
 use Rattle.trellis.specs.Numbers.{single}
-use Rattle.trellis.specs.Terms.{header, lent, Accepted}
+use Rattle.trellis.specs.Terms.{header, lent}
 use Rattle.trellis.proofs.Alike.{Follows}
 use Rattle.trellis.proofs.Metric.{header-pass, header-alike}
+
+-- the terms are accepted: f32 values, each from -1,000,000 to 1,000,000
+pub record Accepted (terms : List Float) : Type 0 where
+  pub held : (i : ℕ) → i < length terms → T (fits binary32 (lent terms i))
+  pub within : (i : ℕ) → i < length terms → Within (million true) (million false) (lent terms i)
 
 -- a score, and a term, which may be -0.0, stand for themselves
 record Held (q : ℕ) (x y : Float) : Type 0 where

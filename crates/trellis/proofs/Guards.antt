@@ -1,5 +1,6 @@
--- No premise of the claim is empty: any whole numbers are terms, there are accepted terms, all of them are whole numbers of units, and on a small code of the header's shape a closed
--- word beats every other walk. Assumes nothing.
+-- No premise of the claims is empty: any whole numbers are terms, there are accepted terms, all of them are whole numbers of units, and on a small
+-- code of the header's shape a closed word beats every other walk. And `NearExact` claims no less than it could: on a smaller one the word that is
+-- out in the first pass has a rival whose exact score is above its own. Assumes nothing.
 use Prim.Native.Nat.{ℕ, zero, suc, _+_, _*_, _%_, _^_, _≤_, _<_}
 use native.Mathlib.Nat.{le-trans, le-of-eq, one-mul}
 use mathlib.Core.Path.{_≡_, refl, ap, subst}
@@ -10,59 +11,47 @@ use lib.Dec.{T, eqb, eqb→eq, lit<, lit≤}
 use lib.Bits.{bitAnd}
 use lib.Count.{ones}
 use lib.ListN.{length, getD, replicate, length-replicate, getD-replicate}
-use lib.IntN.{ℤ, pos, natAbs}
+use lib.IntN.{ℤ, pos, negsuc, natAbs}
 use lib.Signed.{ltZ, _<ℤ_}
-use lib.Ieee.{Float, binary32, nan, fin, ofInt, fits, le}
+use lib.Ieee.{Float, binary32, nan, fin, ofInt, add, sub, lt, fits, le}
 use lib.Ieee.Fits.{and-l, and-r}
 use Rattle.ieee.specs.Whole.{Whole, run}
 use Rattle.ieee.specs.Within.{Within}
 use Rattle.ieee.specs.Size.{Upto}
-use Rattle.ieee.specs.Units.{Units}
+use Rattle.ieee.specs.Units.{Units, units}
 use Rattle.ieee.proofs.Sizes.{upto-within}
 use Rattle.ieee.proofs.Grids.{grid-fits}
 use Rattle.ieee.proofs.Units.{inUnits, units-grid, units-size}
 use Rattle.ieee.proofs.Values.{ofInt-whole}
 use Rattle.util.specs.Choose.{choose}
+use Rattle.util.specs.Table.{tabled}
+use Rattle.util.proofs.Fill.{tabled-length, tabled-at}
 use Rattle.conv.specs.Encoder.{state, walkRegister, made, bit}
 use Rattle.trellis.specs.Trellis.{Trellis, walkScore, closedScore}
-use Rattle.trellis.specs.Search.{closing, search}
-use Rattle.trellis.specs.Numbers.{whole}
-use Rattle.trellis.specs.Terms.{lent, WholeTerms, UnitTerms, Accepted}
+use Rattle.trellis.specs.Scale.{Scale, highest}
+use Rattle.trellis.specs.Search.{closing, traceStart, traceWord, beats, scores, decision, candidates, begin, closesIn, last, best, settled, search}
+use Rattle.trellis.specs.Numbers.{single, whole}
+use Rattle.trellis.specs.Terms.{lent, WholeTerms, UnitTerms}
 use Rattle.trellis.proofs.Integers.{ranked}
 use Rattle.trellis.proofs.Demand.{unique}
+use Rattle.trellis.proofs.Finite.{Accepted}
 use Rattle.trellis.proofs.Every.{every, every-at}
 
 -- ---- terms
 
--- the first m of f
-unfoldable pub listOf : {A : Type 0} → (ℕ → A) → ℕ → List A
-listOf f zero = []
-listOf f (suc m) = f 0 ∷ listOf (λ i. f (suc i)) m
-
-pub listOf-length : {A : Type 0} (f : ℕ → A) (m : ℕ) → length (listOf f m) ≡ m
-unfolding listOf
-listOf-length f zero = refl
-listOf-length f (suc m) = ap suc (listOf-length (λ i. f (suc i)) m)
-
-listOf-at : {A : Type 0} (f : ℕ → A) (m : ℕ) (d : A) (i : ℕ) → i < m → getD (listOf f m) i d ≡ f i
-unfolding listOf
-listOf-at f zero d i h = absurd (omega arith)
-listOf-at f (suc m) d zero h = refl
-listOf-at f (suc m) d (suc i) h = listOf-at (λ j. f (suc j)) m d i (omega arith)
-
 -- the f32 values of whole numbers
 abbrev pub values : (ℕ → ℤ) → ℕ → List Float
-values ints m = listOf (λ i. ofInt binary32 (ints i)) m
+values ints m = tabled m (λ i. ofInt binary32 (ints i))
 
 -- any whole numbers from -800 to 800 are such terms
 pub any-whole : (ints : ℕ → ℤ) (m : ℕ) → ((i : ℕ) → i < m → natAbs (ints i) ≤ 800) → WholeTerms 800 (values ints m) ints
 any-whole ints m small = record { whole = λ i h. is i (low i h); small = λ i h. small i (low i h) }
   where
     low : (i : ℕ) → i < length (values ints m) → i < m
-    low i h = subst (λ (n : ℕ). i < n) (listOf-length (λ j. ofInt binary32 (ints j)) m) h
+    low i h = subst (λ (n : ℕ). i < n) (tabled-length m (λ j. ofInt binary32 (ints j))) h
 
     is : (i : ℕ) → i < m → Whole (lent (values ints m) i) (ints i)
-    is i h = rw (listOf-at (λ j. ofInt binary32 (ints j)) m nan i h) (ofInt-whole binary32 (ints i) (omega (arith, small i h)))
+    is i h = rw (tabled-at m i (λ j. ofInt binary32 (ints j)) nan h) (ofInt-whole binary32 (ints i) (omega (arith, small i h)))
 
 -- zeros are accepted, of either sign
 pub zeros-accepted : (n : ℕ) (s : Bool) → Accepted (replicate n (fin s 0 (pos 0)))
@@ -136,3 +125,23 @@ beats-all p v hp hv other =
 pub thirteen-out : (search (smallClean 13) .word ≡ 13) × (search (smallClean 13) .how ≡ closing 1)
 unfolding smallClean
 thirteen-out = unique whole 2 (lit< tt) 5 (lit≤ tt) (smallClean 13 .earn) ranked 13 (λ p v hp hv other. beats-all p v hp hv other .lt)
+
+-- ---- a rival above the word, by less than rounding loses
+
+-- a code of 4 states, 2 steps: every register earns `big` at step 0, and at step 1 register 7 earns `little`, every other nothing
+pub rounding : {A : Type 0} → Scale A → A → A → Trellis A
+rounding S big little =
+    record { scale = S; states = 4; steps = 2; earn = λ j r. choose (eqb j 0) big (choose (eqb r 7) little (S .nil)) }
+
+-- in f32 with 2^20 and 2^-5 all walks tie, since 2^20 + 2^-5 rounds to 2^20: the word 0 is out, by closing in the first pass
+pub rounded-out : search (rounding single (fin false 1 (pos 20)) (fin false 1 (negsuc 4))) ≡ record { how = closing 1; word = 0; score = fin false 1 (pos 20) }
+unfolding rounding search settled best last closesIn begin candidates beats traceStart traceWord highest scores decision lt add sub
+rounded-out = refl
+
+-- and the exact score of the word 3, in units of 2^-5, is above its own
+pub rival-above : closedScore (rounding whole (pos (2 ^ 25)) (pos 1)) 2 0 <ℤ closedScore (rounding whole (pos (2 ^ 25)) (pos 1)) 2 3
+unfolding rounding run state made
+rival-above = record { lt = tt }
+
+rounding-units : Units 5 (fin false 1 (pos 20)) (pos (2 ^ 25)) × Units 5 (fin false 1 (negsuc 4)) (pos 1)
+rounding-units = (units false 1 (pos 20) (2 ^ 25) refl, units false 1 (negsuc 4) 1 refl)

@@ -25,9 +25,10 @@ use Rattle.model.specs.Metric.{metricOf}
 use Rattle.model.specs.Range.{someOut}
 use Rattle.trellis.specs.Numbers.{single, whole}
 use Rattle.trellis.specs.Terms.{header, lent, documentSearch, UnitTerms}
-use Rattle.trellis.specs.Demand.{walk, closed, AnyTerms, NearExact}
+use Rattle.trellis.specs.Demand.{walk, closed, lost, margin, AnyTerms, NearExact, Claims}
 use Rattle.trellis.proofs.Integers.{≤ℤ-apart}
 use Rattle.trellis.proofs.Metric.{step-within}
+use Rattle.trellis.proofs.Demand.{demand-3, best-word}
 use Rattle.trellis.proofs.AnyTerms.{any-terms}
 
 -- a power further up
@@ -64,26 +65,26 @@ module _ (mode kind a : ℕ) (terms : List Float) (ints : ℕ → ℤ) (all : le
       (lit< tt) (omega arith) (omega (arith, up-by (a + 149) (24 + suc (a + 127)) 3 (omega arith)))
 
   -- a walk, at most 64 metrics: within 2^(a+9), and 2^(a-16) lost at each step
-  walk-near : (p w : ℕ) → Near 149 (2 ^ (a + 149 - 9)) (walk single mode kind (lent terms) p w) (walk whole mode kind ints p w)
+  walk-near : (p w : ℕ) → Near 149 (lost a) (walk single mode kind (lent terms) p w) (walk whole mode kind ints p w)
   walk-near p w =
-      near-wider (2 ^ (a + 149 - 9))
+      near-wider (lost a)
       (run-near binary32 (a + 3) (a + 133) (5 * (0 + 2 ^ (a + 127))) _ _ (headerBits kind) (λ j k. earn-upto j _ k) (λ j k. earn-near j _ k)
       (omega (arith, header-most kind)) (omega arith)
       (omega (arith, mul-le-mul-right (2 ^ (a + 3 + 149)) (header-most kind), up-by (a + 3 + 149) (24 + suc (a + 133)) 6 (omega arith))))
-      (lost (headerBits kind) (2 ^ (a + 127)) (2 ^ (a + 133)) (2 ^ (a + 149 - 9)) (header-most kind) (up-by (a + 127) (a + 133) 6 (omega arith)) (up-by (a + 127) (a + 149 - 9) 13 (omega arith)))
+      (all-lost (headerBits kind) (2 ^ (a + 127)) (2 ^ (a + 133)) (lost a) (header-most kind) (up-by (a + 127) (a + 133) 6 (omega arith)) (up-by (a + 127) (a + 149 - 9) 13 (omega arith)))
     where
-      lost : (n u v w : ℕ) → n ≤ 64 → v ≡ u * 64 → w ≡ u * 8192 → n * (5 * (0 + u) + v) ≤ w
-      lost n u v w l d e = omega (arith, mul-le-mul-right (5 * (0 + u) + v) l)
+      all-lost : (n u v w : ℕ) → n ≤ 64 → v ≡ u * 64 → w ≡ u * 8192 → n * (5 * (0 + u) + v) ≤ w
+      all-lost n u v w l d e = omega (arith, mul-le-mul-right (5 * (0 + u) + v) l)
 
   -- two walks: where one's f32 score is at most the other's, so is its exact score, but for twice as much
   order-near : (p v q w : ℕ) → (lt (walk single mode kind (lent terms) q w) (walk single mode kind (lent terms) p v) ≡ false)
-      → walk whole mode kind ints p v ≤ℤ (walk whole mode kind ints q w +ℤ pos (2 ^ (a + 149 - 8)))
+      → walk whole mode kind ints p v ≤ℤ (walk whole mode kind ints q w +ℤ pos (margin a))
   order-near p v q w e =
       let x = walk-near p v in
       let y = walk-near q w in
-      let twice : 2 ^ (a + 149 - 9) + 2 ^ (a + 149 - 9) ≡ 2 ^ (a + 149 - 8) = omega (arith, up-by (a + 149 - 9) (a + 149 - 8) 1 (omega arith)) in
+      let twice : lost a + lost a ≡ margin a = omega (arith, up-by (a + 149 - 9) (a + 149 - 8) 1 (omega arith)) in
       subst (λ (k : ℕ). walk whole mode kind ints p v ≤ℤ (walk whole mode kind ints q w +ℤ pos k)) twice
-      (≤ℤ-apart (walk whole mode kind ints p v) (walk whole mode kind ints q w) (x .off) (y .off) (2 ^ (a + 149 - 9))
+      (≤ℤ-apart (walk whole mode kind ints p v) (walk whole mode kind ints q w) (x .off) (y .off) (lost a)
       (ltZ-no (subst (λ (t : Bool). T (not t)) (sym e ∙ lt-units (y .is) (x .is)) tt)) (x .small) (y .small))
 
   module _ (in-range : someOut terms ≡ false) where
@@ -98,14 +99,25 @@ module _ (mode kind a : ℕ) (terms : List Float) (ints : ℕ → ℤ) (all : le
         record {
           near = walk-near;
           exact = λ o.
-              subst (λ (x : Float). Near 149 (2 ^ (a + 149 - 9)) x (closed whole mode kind ints word)) (sym (any .exact o))
+              subst (λ (x : Float). Near 149 (lost a) x (closed whole mode kind ints word)) (sym (any .exact o))
               (walk-near (made (bit word) (headerBits kind) 14) word);
-          optimal = λ o p w hp hw.
-              order-near p w (made (bit word) (headerBits kind) 14) word (is-false _ (le→not-lt _ _ (any .optimal o p w hp hw)));
-          unique = λ w hw beats.
-              any .unique w hw (λ p v hp hv other. above _ (λ e. clashℤ (beats p v hp hv other) (order-near (made (bit w) (headerBits kind) 14) w p v e)));
+          best = best-word whole mode kind ints
+              (λ o p w hp hw. order-near p w (made (bit word) (headerBits kind) 14) word (is-false _ (le→not-lt _ _ (any .best .optimal o p w hp hw))))
+              (λ w hw beats.
+              any .best .unique w hw
+              (λ p v hp hv other. above _ (λ e. clashℤ (beats p v hp hv other) (order-near (made (bit w) (headerBits kind) 14) w p v e))));
         }
       where
         above : (t : Bool) → (t ≡ false → ⊥) → T t
         above true h = tt
         above false h = absurd (h refl)
+
+-- what the header read promises of its answer: all three, for every read that is not refused
+pub claims : (mode kind : ℕ) (terms : List Float) → length terms ≡ 260 * headerBits kind → someOut terms ≡ false
+    → Claims mode kind terms (documentSearch mode kind terms)
+claims mode kind terms all in-range =
+    record {
+      whole = λ ints h. demand-3 mode kind terms ints all h;
+      any = any-terms mode kind terms all in-range;
+      near = λ a ints few h. near-exact mode kind a terms ints all h few in-range;
+    }

@@ -8,6 +8,7 @@ use native.Mathlib.Decide.{decLt}
 use native.Mathlib.Omega.{arith}
 use lib.Pow.{high, low, field, mod-mod-pow}
 use Rattle.conv.specs.Encoder.{register, state, walkRegister, bit}
+use Rattle.conv.proofs.Bits.{state-cong}
 use Rattle.trellis.specs.Search.{cameBy, traceStart, traceWord}
 
 -- ---- bits of a word
@@ -27,15 +28,6 @@ bit-below c w {i} {j} h l = sym (field (c * 2 ^ j + w) 1 i) ∙ ap (λ (x : ℕ)
 -- and the bit at j is what stands there
 pub bit-at : (c w j : ℕ) → c < 2 → w < 2 ^ j → bit (c * 2 ^ j + w) j ≡ c
 bit-at c w j h l = ap (λ (x : ℕ). x % 2) (high c j l) ∙ mod-eq-of-lt h
-
--- ---- walks
-
--- a walk's state after j steps turns on its first j bits alone
-pub state-cong : (N p : ℕ) (b c : ℕ → ℕ) (j : ℕ) → ((i : ℕ) → i < j → b i ≡ c i) → state N p b j ≡ state N p c j
-unfolding state
-state-cong N p b c zero h = refl
-state-cong N p b c (suc j) h =
-    ap₂ (λ (x y : ℕ). register x y % N) (state-cong N p b c j (λ i l. h i (omega arith))) (h j (omega arith))
 
 -- ---- the register by which a state is reached
 

@@ -17,10 +17,10 @@ use Rattle.frame.proofs.Onto.{every-slot}
 use Rattle.conv.specs.Encoder.{bit}
 use Rattle.conv.specs.Sent.{stepLabel, labels}
 use Rattle.conv.proofs.Slots.{labels-at}
-use Rattle.trellis.specs.Scale.{sum}
+use Rattle.trellis.specs.Scale.{Scale, sum}
 use Rattle.trellis.specs.Numbers.{whole}
 use Rattle.trellis.specs.Terms.{metric}
-use Rattle.trellis.specs.Demand.{closed}
+use Rattle.trellis.specs.Demand.{closed, symbolEarns}
 use Rattle.trellis.proofs.Best.{run-cong}
 
 -- ---- sums
@@ -93,11 +93,14 @@ module _ (n : ℕ) (g : ℕ → ℤ) where
       sum-cong n (λ j h. sym (sum-only (slotOf n j) g n (slot-within n j h))) ∙ sum-turned (λ j s. only-at (slotOf n j) g s) n n
       ∙ sum-cong n (λ s h. one-step s h)
 
--- the closed word w scores the sum over the header's symbols of the metric of the value sent there
-pub sent-earns : (mode kind : ℕ) (ints : ℕ → ℤ) (w : ℕ)
-    → closed whole mode kind ints w ≡ sum whole (λ symbol. metric whole (formatOf mode .bins) ints symbol (getD (labels (headerBits kind) (bit w)) symbol 0)) (headerBits kind)
+-- a closed word scores what the symbols sent earn, added in the order of the steps: step j's label stands in its slot
+pub sent-in-steps : {A : Type 0} (S : Scale A) (mode kind : ℕ) (terms : ℕ → A) (w : ℕ)
+    → closed S mode kind terms w ≡ sum S (λ j. symbolEarns S mode kind terms w (slotOf (headerBits kind) j)) (headerBits kind)
 unfolding stepLabel
-sent-earns mode kind ints w =
+sent-in-steps S mode kind terms w =
     let n = headerBits kind in
-    sum-cong n (λ j h. ap (metric whole (formatOf mode .bins) ints (slotOf n j)) (sym (labels-at n (bit w) j h)))
-    ∙ over-symbols n (λ symbol. metric whole (formatOf mode .bins) ints symbol (getD (labels n (bit w)) symbol 0))
+    run-cong (S .add) (S .nil) n (λ j h. ap (metric S (formatOf mode .bins) terms (slotOf n j)) (sym (labels-at n (bit w) j h)))
+
+-- and of whole numbers in any order: the sum over the header's symbols of the metric of the value sent there
+pub sent-earns : (mode kind : ℕ) (ints : ℕ → ℤ) (w : ℕ) → closed whole mode kind ints w ≡ sum whole (symbolEarns whole mode kind ints w) (headerBits kind)
+sent-earns mode kind ints w = sent-in-steps whole mode kind ints w ∙ over-symbols (headerBits kind) (symbolEarns whole mode kind ints w)

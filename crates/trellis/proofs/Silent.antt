@@ -12,7 +12,7 @@ use lib.Dec.{T, eqb, eqb→eq}
 use lib.Pow.{mod-mod-pow, mod-pow-add}
 use Rattle.conv.specs.Label.{labelOf}
 use Rattle.conv.specs.Encoder.{register, state, walkRegister, bit}
-use Rattle.conv.proofs.Linear.{label-xor, computed, label-computed, label-newest, label-oldest}
+use Rattle.conv.proofs.Linear.{label-xor, computed, label-computed, label-newest, label-oldest, mod-sums}
 use Rattle.conv.proofs.Closed.{state-below}
 use Rattle.trellis.proofs.Paths.{bit-lt, bit-at}
 use Rattle.trellis.proofs.Every.{every, every-at}
@@ -40,15 +40,7 @@ agree {f} {g} F G (suc k) h x l = go (decLt x (2 ^ k)) (λ y. agree F G k (λ i 
         ∙ sym (G .xor (1 * 2 ^ k) r) ∙ ap g (sym split)
 
 both : {f g : ℕ → ℕ} → Linear f → Linear g → Linear (λ x. (f x + g x) % 2)
-both {f} {g} F G = record { xor = λ a b. ap₂ (λ (x y : ℕ). (x + y) % 2) (F .xor a b) (G .xor a b) ∙ turned (f a) (f b) (g a) (g b) }
-  where
-    two : (x y : ℕ) → (x % 2 + y % 2) % 2 ≡ (x + y) % 2
-    two x y = omega arith
-
-    turned : (a b c d : ℕ) → ((a + b) % 2 + (c + d) % 2) % 2 ≡ ((a + c) % 2 + (b + d) % 2) % 2
-    turned a b c d =
-        let same : a + b + (c + d) ≡ a + c + (b + d) = omega arith in
-        two (a + b) (c + d) ∙ ap (λ (x : ℕ). x % 2) same ∙ sym (two (a + c) (b + d))
+both {f} {g} F G = record { xor = λ a b. ap₂ (λ (x y : ℕ). (x + y) % 2) (F .xor a b) (G .xor a b) ∙ mod-sums (f a) (f b) (g a) (g b) }
 
 -- digit i, of a number and of the label of the register that stands s digits up in a window
 digit-xor : (i a b : ℕ) → bitXor a b / 2 ^ i % 2 ≡ (a / 2 ^ i % 2 + b / 2 ^ i % 2) % 2

@@ -1,79 +1,99 @@
--- Demand 3, a single claim about the whole read, for terms that are whole numbers (`ints`), and what holds of it for any accepted terms. The words
--- are document 01's.
-use Prim.Native.Nat.{ℕ, _+_, _-_, _^_, _<_}
+-- What is claimed of a header read: demand 3, for terms that are whole numbers, and what holds of every read that is not refused. The words are
+-- document 01's: a walk, a closed word, handed out as closed, out by closing in the first pass.
+use Prim.Native.Nat.{ℕ, _+_, _-_, _^_, _≤_, _<_}
 use mathlib.Core.Path.{_≡_}
 use mathlib.Core.List.{List}
 use lib.Dec.{T}
 use lib.IntN.{ℤ, pos, _+ℤ_}
+use lib.ListN.{getD}
 use lib.Signed.{_≤ℤ_, _<ℤ_}
 use lib.Ieee.{Float, le, lt}
 use Rattle.ieee.specs.Whole.{Whole}
 use Rattle.ieee.specs.Units.{Near}
-use Rattle.frame.specs.Format.{headerBits}
+use Rattle.frame.specs.Format.{formatOf, headerBits}
+use Rattle.frame.specs.Air.{slotOf}
 use Rattle.conv.specs.Encoder.{made, bit}
-use Rattle.trellis.specs.Scale.{Scale}
+use Rattle.conv.specs.Sent.{labels}
+use Rattle.trellis.specs.Scale.{Scale, sum}
 use Rattle.trellis.specs.Trellis.{walkScore, closedScore}
 use Rattle.trellis.specs.Answer.{Answer, scoreIn, HandedOutAsClosed, OutInFirstPass}
 use Rattle.trellis.specs.Numbers.{single, whole}
-use Rattle.trellis.specs.Terms.{header, lent, documentSearch}
+use Rattle.trellis.specs.Terms.{metric, header, lent, documentSearch, WholeTerms, UnitTerms}
 
--- in either kind of score: what the walk from state p with the bits of w scores, and what the closed word w does (at ℤ that is what its sent
--- symbols earn: proofs/Sent.antt)
 module _ {A : Type 0} (S : Scale A) (mode kind : ℕ) (terms : ℕ → A) where
+  -- in either kind of score: what the walk from state p with the bits of w scores, and what the closed word w does
   abbrev pub walk : ℕ → ℕ → A
   walk p w = walkScore (header S mode kind terms) p w
 
   abbrev pub closed : ℕ → A
   closed w = closedScore (header S mode kind terms) 14 w
 
+  -- what symbol s of the header sent earns, where that header is the word w: the metric of the value that stands there
+  abbrev pub symbolEarns : ℕ → ℕ → A
+  symbolEarns w s = metric S (formatOf mode .bins) terms s (getD (labels (headerBits kind) (bit w)) s 0)
+
 -- another start or another bit than the closed word w's makes another walk
 abbrev pub Another : ℕ → ℕ → ℕ → ℕ → Type 0
 Another kind w p v = (p ≡ made (bit w) (headerBits kind) 14) × (v ≡ w) → ⊥
 
+-- An answer's word is the best one, in either kind of score: `atMost` and `less` are the two comparisons of scores.
+pub record BestWord {A : Type 0} (S : Scale A) (atMost less : A → A → Type 0) (mode kind : ℕ) (terms : ℕ → A) (a : Answer Float) : Type 0 where
+  -- out by closing in the first pass, every walk of as many steps scores at most as much as the word,
+  pub optimal : OutInFirstPass (a .outcome) → (p w : ℕ) → p < 16384 → w < 2 ^ headerBits kind
+      → atMost (walk S mode kind terms p w) (closed S mode kind terms (a .word))
+  -- so no word beats it
+  pub unbeaten : OutInFirstPass (a .outcome) → (w : ℕ) → w < 2 ^ headerBits kind
+      → atMost (closed S mode kind terms w) (closed S mode kind terms (a .word))
+  -- a closed word that scores strictly more than every other walk is handed out, by closing in the first pass
+  pub unique : (w : ℕ) → w < 2 ^ headerBits kind
+      → ((p v : ℕ) → p < 16384 → v < 2 ^ headerBits kind → Another kind w p v → less (walk S mode kind terms p v) (closed S mode kind terms w))
+      → (a .word ≡ w) × OutInFirstPass (a .outcome)
+
+-- For accepted terms from -2^a to 2^a, in units of 2^-149 (so 2^(149+k) units are 2^k): 2^(a-9) bounds what rounding loses in a walk's score, and
+-- twice as much what it loses between two
+abbrev pub lost : ℕ → ℕ
+lost a = 2 ^ (a + 149 - 9)
+
+abbrev pub margin : ℕ → ℕ
+margin a = 2 ^ (a + 149 - 8)
+
 module _ (mode kind : ℕ) where
+  -- Demand 3, a single claim about the whole read, for terms that are the whole numbers `ints`
   pub record Demand3 (ints : ℕ → ℤ) (terms : List Float) (a : Answer Float) : Type 0 where
-    -- the word has no bit above the last
-    pub short : a .word < 2 ^ headerBits kind
     -- (i) word and outcome, with score and pass, are those that document 01's search gives
     pub given : a ≡ documentSearch mode kind terms
-    -- (ii) handed out as closed, the score is exactly what the word's encoded symbols earn
+    -- (ii) handed out as closed, the score is exactly what the closed word scores,
     pub exact : HandedOutAsClosed (a .outcome) → Whole (scoreIn (a .outcome)) (closed whole mode kind ints (a .word))
-    -- (iii) out by closing in the first pass, every walk of as many steps scores at most as much
-    pub optimal : OutInFirstPass (a .outcome) → (p w : ℕ) → p < 16384 → w < 2 ^ headerBits kind
-        → walk whole mode kind ints p w ≤ℤ closed whole mode kind ints (a .word)
-    -- (iv) a closed word that scores strictly more than every other walk is handed out, by closing in the first pass
-    pub unique : (w : ℕ) → w < 2 ^ headerBits kind
-        → ((p v : ℕ) → p < 16384 → v < 2 ^ headerBits kind → Another kind w p v → walk whole mode kind ints p v <ℤ closed whole mode kind ints w)
-        → (a .word ≡ w) × OutInFirstPass (a .outcome)
+    -- which is what its encoded symbols earn: the sum over the symbols of the header sent
+    pub sent : (w : ℕ) → closed whole mode kind ints w ≡ sum whole (symbolEarns whole mode kind ints w) (headerBits kind)
+    -- (iii) optimal, no word beats it, and (iv) unique, by the order of the whole numbers
+    pub best : BestWord whole _≤ℤ_ _<ℤ_ mode kind ints a
 
   -- For any accepted terms, with scores added as the receiver adds them: a walk's score is the f32 sum from 0.0 of what its steps earn, from the
   -- left, rounded at each step. Scores compare as Rust's <= and <.
   pub record AnyTerms (terms : List Float) (a : Answer Float) : Type 0 where
+    -- the word has zeros above the last header bit
     pub short : a .word < 2 ^ headerBits kind
-    pub given : a ≡ documentSearch mode kind terms
     -- out by closing in the first pass, the score is that of the closed word,
     pub exact : OutInFirstPass (a .outcome) → scoreIn (a .outcome) ≡ closed single mode kind (lent terms) (a .word)
-    -- and every walk of as many steps scores at most as much
-    pub optimal : OutInFirstPass (a .outcome) → (p w : ℕ) → p < 16384 → w < 2 ^ headerBits kind
-        → T (le (walk single mode kind (lent terms) p w) (closed single mode kind (lent terms) (a .word)))
-    -- a closed word that scores strictly more than every other walk is handed out, by closing in the first pass
-    pub unique : (w : ℕ) → w < 2 ^ headerBits kind
-        → ((p v : ℕ) → p < 16384 → v < 2 ^ headerBits kind → Another kind w p v
-        → T (lt (walk single mode kind (lent terms) p v) (closed single mode kind (lent terms) w)))
-        → (a .word ≡ w) × OutInFirstPass (a .outcome)
+    -- which is what the symbols of the header sent earn, added in the order of the steps
+    pub sent : (w : ℕ) → closed single mode kind (lent terms) w
+        ≡ sum single (λ j. symbolEarns single mode kind (lent terms) w (slotOf (headerBits kind) j)) (headerBits kind)
+    pub best : BestWord single (λ x y. T (le x y)) (λ x y. T (lt x y)) mode kind (lent terms) a
 
   -- How far f32 can be from the truth, for accepted terms from -2^a to 2^a, a from 0 to 20. `ints` are the terms in units of 2^-149, exactly, so
-  -- `walk whole` is a walk's exact score in such units, with no rounding anywhere, and 2^(149+k) of them are 2^k.
+  -- `walk whole` is a walk's exact score in such units, with no rounding anywhere.
   pub record NearExact (a : ℕ) (ints : ℕ → ℤ) (terms : List Float) (ans : Answer Float) : Type 0 where
     -- a walk's f32 score is off from its exact score by at most 2^(a-9)
-    pub near : (p w : ℕ) → Near 149 (2 ^ (a + 149 - 9)) (walk single mode kind (lent terms) p w) (walk whole mode kind ints p w)
+    pub near : (p w : ℕ) → Near 149 (lost a) (walk single mode kind (lent terms) p w) (walk whole mode kind ints p w)
     -- so, out by closing in the first pass, the score is off from the closed word's exact score by no more,
-    pub exact : OutInFirstPass (ans .outcome) → Near 149 (2 ^ (a + 149 - 9)) (scoreIn (ans .outcome)) (closed whole mode kind ints (ans .word))
-    -- and no walk's exact score is above the closed word's by more than 2^(a-8)
-    pub optimal : OutInFirstPass (ans .outcome) → (p w : ℕ) → p < 16384 → w < 2 ^ headerBits kind
-        → walk whole mode kind ints p w ≤ℤ (closed whole mode kind ints (ans .word) +ℤ pos (2 ^ (a + 149 - 8)))
-    -- a closed word whose exact score is above every other walk's by more than 2^(a-8) is handed out, by closing in the first pass
-    pub unique : (w : ℕ) → w < 2 ^ headerBits kind
-        → ((p v : ℕ) → p < 16384 → v < 2 ^ headerBits kind → Another kind w p v
-        → (walk whole mode kind ints p v +ℤ pos (2 ^ (a + 149 - 8))) <ℤ closed whole mode kind ints w)
-        → (ans .word ≡ w) × OutInFirstPass (ans .outcome)
+    pub exact : OutInFirstPass (ans .outcome) → Near 149 (lost a) (scoreIn (ans .outcome)) (closed whole mode kind ints (ans .word))
+    -- no walk's exact score, and so no word's, is above the closed word's by more than 2^(a-8), and a closed word whose exact score is above every
+    -- other walk's by more than that is handed out
+    pub best : BestWord whole (λ x y. x ≤ℤ (y +ℤ pos (margin a))) (λ x y. (x +ℤ pos (margin a)) <ℤ y) mode kind ints ans
+
+  -- what the header read promises of an answer, beside the equation for it
+  pub record Claims (terms : List Float) (a : Answer Float) : Type 0 where
+    pub whole : (ints : ℕ → ℤ) → WholeTerms 800 terms ints → Demand3 ints terms a
+    pub any : AnyTerms terms a
+    pub near : (k : ℕ) (ints : ℕ → ℤ) → k ≤ 20 → UnitTerms k terms ints → NearExact k ints terms a

@@ -1,4 +1,5 @@
--- Document 01, 'A header read': the search, over any kind of score. A table of scores is a function from the state.
+-- Document 01, 'A header read': the search, over any kind of score. It is a Viterbi search over a tail-biting code, wrapped around the trellis at
+-- most three times: each pass starts from the scores in which the one before ended. A table of scores is a function from the state.
 use Prim.Native.Nat.{ℕ, zero, suc, _+_, _*_, _/_, _%_, _^_}
 use mathlib.Core.Bool.{Bool, true, _&&_}
 use mathlib.Core.Option.{Option, none, some}
@@ -7,7 +8,7 @@ use Rattle.util.specs.Choose.{choose}
 use Rattle.trellis.specs.Scale.{Scale, highest}
 use Rattle.trellis.specs.Trellis.{Trellis}
 
--- The register by which state s was reached: s itself, or s + N where the decision is for the upper one.
+-- The register by which state s was reached (its survivor): s itself, or s + N where the decision is for the upper one.
 abbrev pub cameBy : ℕ → Bool → ℕ → ℕ
 cameBy N upper s = choose upper (s + N) s
 
@@ -44,18 +45,18 @@ pub record Found (A : Type 0) : Type 0 where
 -- ---- one pass, from the start scores f
 
 module _ {A : Type 0} (X : Trellis A) where
-  -- what register r brings at step j: the score of its state, and what it earns
+  -- what register r brings at step j: the score of its state (the path metric), and what it earns (the branch metric)
   abbrev pub brings : (ℕ → A) → ℕ → ℕ → A
   brings f j r = X .scale .add (f (r / 2)) (X .earn j r)
 
-  -- state s is reached from register s or s + 16384, the second only on strictly greater score
+  -- state s is reached from register s or s + 16384, the second only on strictly greater score: add, compare, select
   abbrev pub upper : (ℕ → A) → ℕ → ℕ → Bool
   upper f j s = X .scale .gt (brings f j (s + X .states)) (brings f j s)
 
   abbrev pub step : (ℕ → A) → ℕ → ℕ → A
   step f j s = choose (upper f j s) (brings f j (s + X .states)) (brings f j s)
 
-  -- the scores after j steps, and the decision of step j
+  -- the scores after j steps (a state's path metric), and the decision of step j (its survivor)
   unfoldable pub scores : (ℕ → A) → ℕ → ℕ → A
   scores f zero = f
   scores f (suc j) = step (scores f j) j

@@ -51,11 +51,6 @@ pub record WholeTerms (b : ℕ) (terms : List Float) (ints : ℕ → ℤ) : Type
   pub whole : (i : ℕ) → i < length terms → Whole (lent terms i) (ints i)
   pub small : (i : ℕ) → i < length terms → natAbs (ints i) ≤ b
 
--- the terms are accepted: f32 values, each from -1,000,000 to 1,000,000
-pub record Accepted (terms : List Float) : Type 0 where
-  pub held : (i : ℕ) → i < length terms → T (fits binary32 (lent terms i))
-  pub within : (i : ℕ) → i < length terms → Within (million true) (million false) (lent terms i)
-
 -- the terms are, exactly, ints in units of 2^-149 (of which every f32 is a whole number), each from -2^a to 2^a
 pub record UnitTerms (a : ℕ) (terms : List Float) (ints : ℕ → ℤ) : Type 0 where
   pub units : (i : ℕ) → i < length terms → Units 149 (lent terms i) (ints i)

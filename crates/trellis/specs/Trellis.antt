@@ -1,9 +1,10 @@
 -- Document 01, the words of demand 3: walks and what they score, over any kind of score. Registers and states are the encoder's (crate conv).
+-- 'Walk' and 'closed' are document 01's words: in the field's own, a path through the trellis, and one that bites its tail.
 use Prim.Native.Nat.{ℕ}
 use Rattle.conv.specs.Encoder.{walkRegister, made, bit}
 use Rattle.trellis.specs.Scale.{Scale, sum}
 
--- a code's states (16,384 for the header's), as many steps as a header has symbols, and what register r earns at step j
+-- a code's states (16,384 for the header's), as many steps as a header has symbols, and what register r earns at step j (its branch metric)
 pub record Trellis (A : Type 0) : Type 0 where
   pub scale : Scale A
   pub states : ℕ

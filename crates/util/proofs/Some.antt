@@ -30,9 +30,14 @@ pub neither : (a b : Bool) → (a || b) ≡ false → (a ≡ false) × (b ≡ fa
 neither true b e = absurd (true≢false e)
 neither false b e = (refl, e)
 
--- where none passes, none does at any place
+-- where none passes, none does at any place, and the other way round
 pub none-of : {A : Type 0} (test : A → Bool) (l : List A) (d : A) → someOf test l ≡ false → (i : ℕ) → i < length l → test (getD l i d) ≡ false
 unfolding someOf
 none-of test [] d e i h = absurd (omega arith)
 none-of test (a ∷ l) d e zero h = neither (test a) (someOf test l) e .0
 none-of test (a ∷ l) d e (suc i) h = none-of test l d (neither (test a) (someOf test l) e .1) i (omega arith)
+
+pub none-where : {A : Type 0} (test : A → Bool) (l : List A) (d : A) → ((i : ℕ) → i < length l → test (getD l i d) ≡ false) → someOf test l ≡ false
+unfolding someOf
+none-where test [] d h = refl
+none-where test (a ∷ l) d h = ap (λ (t : Bool). t || someOf test l) (h 0 (omega arith)) ∙ none-where test l d (λ i k. h (suc i) (omega arith))

@@ -50,7 +50,7 @@ same-length c =
     let list = rows .last .1 .1 .1 .0 in
     let n = c .before .before .before .before .before .before .before .before .before .before .before .before .before .before .before .header-symbols in
     let after = lent-room (a .mode) (a .kind) (a .terms .now) list (rows .ensures .0) (rows .ensures .1) (n .result) (n .ensures) (c .before .before .before .before .before .before .before .before .before .search .ensures .1) in
-    after .of-ends ∙ sym (c .before .before .before .before .before .before .before .before .before .before .before .before .before .before .before .before .before .before .before .before .before .before .before .before .pre .1 .of-ends)
+    after .of-scores ∙ sym (c .before .before .before .before .before .before .before .before .before .before .before .before .before .before .before .before .before .before .before .before .before .before .before .before .pre .1 .of-scores)
 
 same-length-2 : tie.Need-same-length-2
 same-length-2 c =
@@ -59,7 +59,7 @@ same-length-2 c =
     let list = rows .last .1 .1 .1 .0 in
     let n = c .before .before .before .before .before .before .before .before .before .before .before .before .before .before .before .header-symbols in
     let after = lent-room (a .mode) (a .kind) (a .terms .now) list (rows .ensures .0) (rows .ensures .1) (n .result) (n .ensures) (c .before .before .before .before .before .before .before .before .before .search .ensures .1) in
-    after .of-second ∙ sym (c .before .before .before .before .before .before .before .before .before .before .before .before .before .before .before .before .before .before .before .before .before .before .before .before .pre .1 .of-second)
+    after .of-next ∙ sym (c .before .before .before .before .before .before .before .before .before .before .before .before .before .before .before .before .before .before .before .before .before .before .before .before .pre .1 .of-next)
 
 same-length-3 : tie.Need-same-length-3
 same-length-3 c =

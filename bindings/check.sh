@@ -1,0 +1,23 @@
+#!/bin/sh
+# Builds and runs the C example, the Rust example and the Rust doc tests over the static library; ends with a status above 0 where one fails.
+# usage: bindings/check.sh      (from anywhere; needs a C compiler and cargo; some seconds, and some minutes more where ion is not proved yet)
+set -eu
+cd "$(dirname "$0")/.."
+case "${1:-}" in
+    "") ;;
+    *) sed -n '2,3s/^# //p' "$0"; [ "$1" = --help ] || [ "$1" = -h ]; exit ;;
+esac
+rt staticlib ion >/dev/null
+mkdir -p target
+cc -std=c99 -Wall -Wextra -Werror -Iinclude bindings/c/read.c target/staticlib/libion.a -o target/read
+target/read
+c++ -std=c++11 -Wall -Wextra -Werror -Iinclude -fsyntax-only -x c++ include/ion.h
+# a header of another version does not link with this library
+sed 's/ion_version_0/ion_version_1/' include/ion.h >target/other.h
+sed 's/"ion.h"/"other.h"/' bindings/c/read.c >target/other.c
+if cc -std=c99 -Itarget target/other.c target/staticlib/libion.a -o target/other 2>/dev/null; then
+    echo "a header of another version links" >&2
+    exit 1
+fi
+cargo run --quiet --offline --manifest-path bindings/rust/Cargo.toml --target-dir target/rust --example read
+cargo test --quiet --offline --manifest-path bindings/rust/Cargo.toml --target-dir target/rust
