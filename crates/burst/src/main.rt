@@ -1,70 +1,52 @@
-// Reads one burst from standard input and prints what it says: the header's word (bit j at place j), its outcome, score and
-// CRC, how many data symbols there are, and with the words `soft` and `metrics` as arguments the soft bits and the metrics.
-// The input, with the lowest byte of each number first (docs/BURST-FORMAT.md has the table):
-//   4 bytes IONB, version 0, mode, kind, form (0 bits, 1 symbols), 4 bytes of zeros, u32 window, u32 data bits,
-//   260 f32 a header symbol, 260 f32 a data symbol, one u32 of blanked samples a data symbol, and nothing more.
+// Reads one burst from a file or from standard input and prints what it says: the header's word (bit j at place j), its
+// outcome, score and CRC, how many data symbols there are, and with the words `soft` and `metrics` as arguments the soft
+// bits and the metrics. docs/BURST-FORMAT.md has the file's table and the lines; `burst --help` prints the usage.
 // Everything is worked out before anything is printed. Bad input gets one line on standard error and an empty standard
-// output. A Rattle program cannot choose its exit status: `burst | grep .` ends with 1 where there was nothing to print.
+// output. A Rattle program cannot choose its exit status: `burst FILE | grep .` ends with 1 where nothing was printed.
+// It needs 3 MB of stack, most of it the lists of the longest burst (it runs under `ulimit -s 3000` and not under 2950).
 ghost use Prim.Native.Nat.{_≤_};
 ghost use mathlib.Core.Path.{_≡_};
 ghost use lib.ListN.{length};
+use burst_file::layout::Head;
+use burst_file::layout::HeadRead;
+use burst_file::layout::Problem;
+use burst_file::verdict;
+use burst_input::arguments;
+use burst_input::arguments::Asked;
+use burst_input::file;
+use burst_input::problem;
+use burst_text::output;
+use burst_text::output::Waiting;
+use libc::STDIN_FILENO;
 
-mod asked;
-mod input;
-mod show;
-mod trouble;
-mod verdict;
-
-use trouble::Trouble;
-
-// The lent terms and counts filled from the input, to its end.
-fn filled(first: &mut [f32], data: &mut [f32], counts: &mut [u32]) -> Trouble {
-    if !input::read_terms(first) {
-        return Trouble::Short;
-    }
-    if !input::read_terms(data) {
-        return Trouble::Short;
-    }
-    if !input::read_counts(counts) {
-        return Trouble::Short;
-    }
-    if !input::at_end() {
-        return Trouble::Long;
-    }
-    Trouble::None
+// How many words of decisions a header's passes fill.
+fn decision_words(kind: u8) -> usize
+    ensures { λ r. ⌜ r ≤ 16384 ⌝ }
+{
+    if kind == 1 { 16384 } else { 12288 }
 }
 
 // The header read, over areas of its own.
 fn header_read(mode: u8, kind: u8, terms: &[f32]) -> header::HeaderRead {
-    let mut ends = [0.0f32; 16384];
-    let mut second = [0.0f32; 16384];
+    let mut scores = [0.0f32; 16384];
+    let mut next = [0.0f32; 16384];
     let mut start = [0.0f32; 16384];
     let mut decisions = [0u64; 16384];
-    if kind == 1 {
-        return header::read_header(
-            mode,
-            kind,
-            terms,
-            &mut ends,
-            &mut second,
-            &mut start,
-            &mut decisions,
-        );
-    }
+    let n = decision_words(kind);
     header::read_header(
         mode,
         kind,
         terms,
-        &mut ends,
-        &mut second,
+        &mut scores,
+        &mut next,
         &mut start,
-        &mut decisions[..12288],
+        &mut decisions[..n],
     )
 }
 
 // The soft values, over a work area of its own.
 fn soft_values(
-    asked: input::Head,
+    head: Head,
     data: &[f32],
     counts: &[u32],
     metrics: &mut [f32],
@@ -76,11 +58,11 @@ fn soft_values(
         return soft::Soft::Refused(4);
     }
     soft::soft_values(
-        asked.mode,
-        asked.kind,
-        asked.symbols,
-        asked.window,
-        asked.bits,
+        head.mode,
+        head.kind,
+        head.symbols,
+        head.window,
+        head.bits,
         data,
         counts,
         &mut work[..n],
@@ -89,52 +71,113 @@ fn soft_values(
     )
 }
 
-fn say_burst(
-    asked: input::Head,
-    wish: u8,
+fn show_outcome(block: &mut [u8], out: Waiting, outcome: header::Outcome) -> Waiting {
+    match outcome {
+        header::Outcome::Sure(score, pass) => burst_lines::sure(block, out, score, pass),
+        header::Outcome::Kept(score) => burst_lines::kept(block, out, score),
+        header::Outcome::Open(score) => burst_lines::undecided(block, out, score),
+    }
+}
+
+// The five lines of every burst.
+fn show_answer(
+    block: &mut [u8],
+    head: Head,
+    answer: header::HeaderAnswer,
+    counts: &[u32],
+) -> Waiting {
+    let outcome = answer.outcome;
+    let out = burst_lines::header(block, output::nothing(), head.kind, answer.word);
+    let out = show_outcome(block, out, outcome);
+    let good = verdict::crc_is_good(head.mode, head.kind, answer.word);
+    let out = burst_lines::crc(block, out, good);
+    let erased = verdict::erased_count(head.window, counts);
+    burst_lines::symbols(block, out, counts.len(), erased)
+}
+
+// The soft bits where they were asked for.
+fn with_soft_bits(block: &mut [u8], out: Waiting, asked: Asked, soft: &[f32]) -> Waiting {
+    if asked.soft {
+        return burst_lines::soft_bits(block, out, soft);
+    }
+    out
+}
+
+// The metrics likewise.
+fn with_metrics(block: &mut [u8], out: Waiting, asked: Asked, metrics: &[f32]) -> Waiting {
+    if asked.metrics {
+        return burst_lines::metrics(block, out, metrics);
+    }
+    out
+}
+
+fn show_burst(
+    head: Head,
+    asked: Asked,
     answer: header::HeaderAnswer,
     counts: &[u32],
     metrics: &[f32],
     soft: &[f32],
 ) {
-    let outcome = answer.outcome;
-    show::header(asked.kind, answer.word);
-    show::outcome(outcome);
-    show::crc(verdict::is_good(asked.mode, asked.kind, answer.word));
-    show::symbols(counts.len(), verdict::erased(asked.window, counts));
-    if wish % 2 == 1 {
-        show::soft_bits(soft);
+    let mut space = io::large_buffer();
+    let block: &mut [u8] = &mut space;
+    let out = show_answer(block, head, answer, counts);
+    let out = with_soft_bits(block, out, asked, soft);
+    let out = with_metrics(block, out, asked, metrics);
+    output::finish(block, out);
+}
+
+// The soft values of a burst whose header is answered, and then all that is to be shown.
+fn shown(
+    head: Head,
+    asked: Asked,
+    answer: header::HeaderAnswer,
+    data: &[f32],
+    counts: &[u32],
+    metrics: &mut [f32],
+    soft: &mut [f32],
+) -> Problem {
+    match soft_values(head, data, counts, metrics, soft) {
+        soft::Soft::Refused(k) => Problem::Refused(k),
+        soft::Soft::Done => {
+            show_burst(head, asked, answer, counts, metrics, soft);
+            Problem::None
+        }
     }
-    if wish >= 2 {
-        show::metrics(metrics);
+}
+
+// A burst whose terms and counts are read.
+fn answered(
+    head: Head,
+    asked: Asked,
+    first: &[f32],
+    data: &[f32],
+    counts: &[u32],
+    metrics: &mut [f32],
+    soft: &mut [f32],
+) -> Problem {
+    match header_read(head.mode, head.kind, first) {
+        header::HeaderRead::Refused(k) => Problem::Refused(k),
+        header::HeaderRead::Answer(answer) => {
+            shown(head, asked, answer, data, counts, metrics, soft)
+        }
     }
 }
 
 // A burst whose head is good, over lists of its lengths.
-fn heard(
-    asked: input::Head,
-    wish: u8,
+fn worked(
+    fd: i32,
+    head: Head,
+    asked: Asked,
     first: &mut [f32],
     data: &mut [f32],
     counts: &mut [u32],
     metrics: &mut [f32],
     soft: &mut [f32],
-) -> Trouble {
-    match filled(first, data, counts) {
-        Trouble::None => (),
-        t => return t,
-    }
-    match header_read(asked.mode, asked.kind, first) {
-        header::HeaderRead::Refused(k) => Trouble::Refused(k),
-        header::HeaderRead::Answer(answer) => {
-            match soft_values(asked, data, counts, metrics, soft) {
-                soft::Soft::Refused(k) => Trouble::Refused(k),
-                soft::Soft::Done => {
-                    say_burst(asked, wish, answer, counts, metrics, soft);
-                    Trouble::None
-                }
-            }
-        }
+) -> Problem {
+    match file::filled(fd, first, data, counts) {
+        Problem::None => answered(head, asked, first, data, counts, metrics, soft),
+        p => p,
     }
 }
 
@@ -158,21 +201,22 @@ fn header_terms(kind: u8) -> usize
     if kind == 1 { 16640 } else { 12480 }
 }
 
-// The lists, at their greatest lengths: with the areas of the two entries about 3 MB of the stack.
-fn burst(asked: input::Head, wish: u8) -> Trouble
-    requires { ⌜ asked .bits ≤ 10240 ⌝ }
+// The lists, at their greatest lengths.
+fn burst(fd: i32, head: Head, asked: Asked) -> Problem
+    requires { ⌜ head .bits ≤ 10240 ⌝ }
 {
     let mut first = [0.0f32; 16640];
     let mut data = data_zeros();
     let mut counts = [0u32; 2048];
     let mut metrics = metric_zeros();
     let mut soft = [0.0f32; 10240];
-    let bits = asked.bits as usize;
-    let n = header_terms(asked.kind);
+    let bits = head.bits as usize;
+    let n = header_terms(head.kind);
     let m = (bits + 4) / 5;
-    heard(
+    worked(
+        fd,
+        head,
         asked,
-        wish,
         &mut first[..n],
         &mut data[..260 * m],
         &mut counts[..m],
@@ -181,21 +225,41 @@ fn burst(asked: input::Head, wish: u8) -> Trouble
     )
 }
 
-fn asked_burst(wish: u8) -> Trouble {
-    if wish > 3 {
-        return Trouble::Words;
-    }
-    match input::read_head() {
-        input::Opened::Bad(t) => t,
-        input::Opened::Good(head) => {
+fn read_burst(fd: i32, asked: Asked) -> Problem {
+    match file::read_head(fd) {
+        HeadRead::Bad(p) => p,
+        HeadRead::Good(head) => {
+            // a good head has no more; `burst` requires it
             if head.bits > 10240 {
-                return Trouble::Refused(2);
+                return Problem::Refused(2);
             }
-            burst(head, wish)
+            burst(fd, head, asked)
         }
     }
 }
 
+fn read_file(i: usize, asked: Asked) {
+    let fd = file::opened(i);
+    if fd < 0 {
+        return;
+    }
+    problem::report(read_burst(fd, asked));
+    libc::close(fd);
+}
+
 fn main() {
-    trouble::complain(asked_burst(asked::wish()));
+    let asked = arguments::given();
+    if asked.unknown > 0 {
+        arguments::refuse(asked.unknown);
+        return;
+    }
+    if asked.help {
+        arguments::help();
+        return;
+    }
+    if asked.file > 0 {
+        read_file(asked.file, asked);
+        return;
+    }
+    problem::report(read_burst(STDIN_FILENO, asked));
 }

@@ -1,10 +1,9 @@
 -- What the encoder sends turns on the n header bits alone, however they are given: as a list of bytes or as a word in a number. Assumes nothing.
 use Prim.Native.Nat.{ℕ, zero, suc, _%_, _<_}
 use mathlib.Core.List.{List}
-use mathlib.Core.Path.{_≡_, refl, sym, ap, ap₂, _∙_}
+use mathlib.Core.Path.{_≡_, refl, ap, ap₂, _∙_}
 use native.Mathlib.Omega.{arith}
 use lib.ListN.{getD}
-use Rattle.frame.specs.Air.{slotOf}
 use Rattle.conv.specs.Label.{labelOf}
 use Rattle.conv.specs.Encoder.{register, state, walkRegister, made, bit}
 use Rattle.conv.specs.Sent.{bitsOf, stepLabel, labels}

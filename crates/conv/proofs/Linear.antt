@@ -114,7 +114,14 @@ computed r = onesIn 15 (bitAnd 0x4441 r) % 2 + 2 * (onesIn 15 (bitAnd 0x7E57 r) 
 pub label-computed : (r : ℕ) → labelOf r ≡ computed r
 unfolding labelOf computed
 label-computed r =
-    omega (arith, parity-computed 0x4441 r (omega arith), parity-computed 0x7E57 r (omega arith), parity-computed 0x6095 r (omega arith), parity-computed 0x443B r (omega arith), parity-computed 0x69B7 r (omega arith))
+    omega (
+      arith,
+      parity-computed 0x4441 r (omega arith),
+      parity-computed 0x7E57 r (omega arith),
+      parity-computed 0x6095 r (omega arith),
+      parity-computed 0x443B r (omega arith),
+      parity-computed 0x69B7 r (omega arith),
+    )
 
 pub label-newest : labelOf 1 ≡ 31
 unfolding computed onesIn

@@ -20,7 +20,7 @@ fn parity(g: u32, r: u32) -> u32
     u32::count_ones(g & r) % 2
 }
 
-// The label of a register of 15 bits. Every label in this project comes from here.
+// Inside: the label of a register of 15 bits. Every label in this project comes from here.
 pub fn label(r: u32) -> u32
     ensures { λ l. ⌜ l ≡ labelOf r ⌝ }
 {
@@ -31,7 +31,7 @@ pub fn label(r: u32) -> u32
         + 16 * parity(GEN[4], r)
 }
 
-// Inside: the start state, made of the last 14 bits, the last one lowest.
+// The start state, made of the last 14 bits, the last one lowest.
 fn start(bits: &[u8]) -> u32
     requires { ⌜ (14 ≤ length (now bits)) × (someAboveOne (now bits) ≡ false) ⌝ }
     ensures { λ r. ⌜ r ≡ made (bitsOf (now (bits .entry))) (length (now (bits .entry))) 14 ⌝ }
@@ -43,7 +43,7 @@ fn start(bits: &[u8]) -> u32
     state
 }
 
-// Inside: the encoder. Each step's label goes to the step's slot.
+// The encoder. Each step's label goes to the step's slot.
 fn encode(kind: u8, bits: &[u8], values: &mut [u8])
     requires { ⌜ (length (now bits) ≡ headerBits kind) × (length (now values) ≡ headerBits kind) × (someAboveOne (now bits) ≡ false) ⌝ }
     ensures { λ r. ⌜ now (values .exit) ≡ labels (headerBits kind) (bitsOf (now (bits .entry))) ⌝ }
@@ -78,7 +78,7 @@ pub fn header_values(mode: u8, kind: u8, bits: &[u8], values: &mut [u8]) -> Sent
     if values.len() != n {
         return Sent::Refused(4);
     }
-    if frame::no_bits(bits) {
+    if frame::some_above_one(bits) {
         return Sent::Refused(5);
     }
     encode(kind, bits, values);

@@ -10,6 +10,7 @@ use borrow.Author.Tests.{le-leb}
 use lib.Dec.{T, T-not, eqb, lit≤}
 use lib.IntN.{ℤ, pos, negsuc, negℤ, natAbs, _+ℤ_, _-ℤ_, +ℤ-one, -ℤ-one}
 use lib.Ieee.{Float, binary64, ofInt, neg, lt, le, add, sub, mul, round}
+use denote.Floats.{passes}
 use Rattle.ieee.specs.Within.{Within, okMul}
 use Rattle.ieee.proofs.Integers.{abs-add, abs-sub}
 use Rattle.ieee.proofs.Order.{le→not-lt}
@@ -17,35 +18,36 @@ use Rattle.ieee.proofs.Intervals.{mul-in}
 use Rattle.ieee.proofs.Values.{ofInt-le}
 use Rattle.util.specs.Choose.{choose}
 use Rattle.frame.specs.Format.{r0, r1, formatOf}
-use Rattle.drift.specs.Doubles.{_⊕_, _⊖_, _⊗_, whole, nearest}
-use Rattle.drift.specs.Fit.{limitOf}
-use Rattle.drift.specs.Tracker.{shiftAfter}
+use Rattle.blocks.specs.Doubles.{_⊕_, _⊖_, _⊗_, asF64, fraction}
+use Rattle.fit.specs.Fit.{limitOf}
+use Rattle.drift.specs.Call.{shiftAfter}
 use Rattle.drift.specs.Series.{farthest}
-use Rattle.drift.proofs.Signs.{holds}
 
 -- one up and one down from the far ends
 abbrev above : ℕ → Float
-above b = whole b ⊕ nearest 7 10
+above b = asF64 b ⊕ fraction 7 10
 
 abbrev beneath : ℕ → Float
-beneath b = ofInt binary64 (negℤ (pos b)) ⊖ nearest 7 10
+beneath b = ofInt binary64 (negℤ (pos b)) ⊖ fraction 7 10
 
 -- drift·c, by the corners of its range
-corners : (b : Bool) → T (okMul binary64 (neg (limitOf (choose b r0 r1 .symbol))) (limitOf (choose b r0 r1 .symbol)) (whole 0) (whole 2048) (beneath (choose b 137 69)) (above (choose b 137 69)))
+corners : (b : Bool)
+    → T (okMul binary64 (neg (limitOf (choose b r0 r1 .symbol))) (limitOf (choose b r0 r1 .symbol)) (asF64 0) (asF64 2048)
+    (beneath (choose b (farthest 0) (farthest 1))) (above (choose b (farthest 0) (farthest 1))))
 unfolding mul add sub neg le ofInt round
 corners true = tt
 corners false = tt
 
 -- a count to 2,048 as an f64
-counted : (c : ℕ) → c ≤ 2048 → Within (whole 0) (whole 2048) (whole c)
+counted : (c : ℕ) → c ≤ 2048 → Within (asF64 0) (asF64 2048) (asF64 c)
 counted c h =
     record {
-      from = holds _ (ofInt-le binary64 (pos 0) (pos c) (lit≤ tt) (omega arith) ∙ le-leb 0 c (omega arith));
-      to = holds _ (ofInt-le binary64 (pos c) (pos 2048) (omega arith) (lit≤ tt) ∙ le-leb c 2048 h);
+      from = passes _ (ofInt-le binary64 (pos 0) (pos c) (lit≤ tt) (omega arith) ∙ le-leb 0 c (omega arith));
+      to = passes _ (ofInt-le binary64 (pos c) (pos 2048) (omega arith) (lit≤ tt) ∙ le-leb c 2048 h);
     }
 
 target-in : (mode : ℕ) (d : Float) (c : ℕ) → Within (neg (limitOf (formatOf mode .symbol))) (limitOf (formatOf mode .symbol)) d → c ≤ 2048
-    → Within (beneath (farthest mode)) (above (farthest mode)) (d ⊗ whole c)
+    → Within (beneath (farthest mode)) (above (farthest mode)) (d ⊗ asF64 c)
 target-in mode d c w h = mul-in binary64 (beneath (farthest mode)) (above (farthest mode)) w (counted c h) (corners (eqb mode 0))
 
 -- up: not from the far end
@@ -57,14 +59,16 @@ up-size (negsuc (suc m)) b one h far = subst (λ (y : ℤ). natAbs y ≤ b) (sym
 down-size : (z : ℤ) (b : ℕ) → 1 ≤ b → natAbs z ≤ b → (z ≡ negℤ (pos b) → ⊥) → natAbs (z -ℤ pos 1) ≤ b
 down-size (pos zero) b one h far = subst (λ (y : ℤ). natAbs y ≤ b) (sym (-ℤ-one (pos zero))) one
 down-size (pos (suc m)) b one h far = subst (λ (y : ℤ). natAbs y ≤ b) (sym (-ℤ-one (pos (suc m)))) (omega arith)
-down-size (negsuc m) b one h far = ⊎-elim (λ e. absurd (far (ap (λ (k : ℕ). negℤ (pos k)) e))) (λ l. omega (arith, abs-sub (negsuc m) (pos 1))) (eq-or-lt-of-le {n = suc m} {m = b} h)
+down-size (negsuc m) b one h far = ⊎-elim (λ e. absurd (far (ap (λ (k : ℕ). negℤ (pos k)) e))) (λ l. omega (arith, abs-sub (negsuc m) (pos 1)))
+    (eq-or-lt-of-le {n = suc m} {m = b} h)
 
-pub shift-held : (mode : ℕ) (z : ℤ) (d : Float) (c : ℕ) → natAbs z ≤ farthest mode → Within (neg (limitOf (formatOf mode .symbol))) (limitOf (formatOf mode .symbol)) d → c ≤ 2048
-    → natAbs (shiftAfter z (d ⊗ whole c)) ≤ farthest mode
-shift-held mode z d c h w l = by (lt (ofInt binary64 z ⊕ nearest 7 10) t) (lt t (ofInt binary64 z ⊖ nearest 7 10)) refl refl
+pub shift-held : (mode : ℕ) (z : ℤ) (d : Float) (c : ℕ) → natAbs z ≤ farthest mode
+    → Within (neg (limitOf (formatOf mode .symbol))) (limitOf (formatOf mode .symbol)) d → c ≤ 2048
+    → natAbs (shiftAfter z (d ⊗ asF64 c)) ≤ farthest mode
+shift-held mode z d c h w l = by (lt (ofInt binary64 z ⊕ fraction 7 10) t) (lt t (ofInt binary64 z ⊖ fraction 7 10)) refl refl
   where
     t : Float
-    t = d ⊗ whole c
+    t = d ⊗ asF64 c
 
     b : ℕ
     b = farthest mode
@@ -75,18 +79,23 @@ shift-held mode z d c h w l = by (lt (ofInt binary64 z ⊕ nearest 7 10) t) (lt 
     one : 1 ≤ b
     one = by-mode (eqb mode 0)
       where
-        by-mode : (m : Bool) → 1 ≤ choose m 137 69
+        by-mode : (m : Bool) → 1 ≤ choose m (farthest 0) (farthest 1)
         by-mode true = omega arith
         by-mode false = omega arith
 
-    by : (p q : Bool) → lt (ofInt binary64 z ⊕ nearest 7 10) t ≡ p → lt t (ofInt binary64 z ⊖ nearest 7 10) ≡ q → natAbs (choose p (z +ℤ pos 1) (choose q (z -ℤ pos 1) z)) ≤ b
-    by true q e f = up-size z b one h (λ far. T-not (lt (above b) t) (le→not-lt t (above b) (inside .to)) (holds (lt (above b) t) (ap (λ (y : ℤ). lt (ofInt binary64 y ⊕ nearest 7 10) t) (sym far) ∙ e)))
-    by false true e f = down-size z b one h (λ far. T-not (lt t (beneath b)) (le→not-lt (beneath b) t (inside .from)) (holds (lt t (beneath b)) (ap (λ (y : ℤ). lt t (ofInt binary64 y ⊖ nearest 7 10)) (sym far) ∙ f)))
+    by : (p q : Bool) → lt (ofInt binary64 z ⊕ fraction 7 10) t ≡ p → lt t (ofInt binary64 z ⊖ fraction 7 10) ≡ q
+        → natAbs (choose p (z +ℤ pos 1) (choose q (z -ℤ pos 1) z)) ≤ b
+    by true q e f = up-size z b one h
+        (λ far. T-not (lt (above b) t) (le→not-lt t (above b) (inside .to))
+        (passes (lt (above b) t) (ap (λ (y : ℤ). lt (ofInt binary64 y ⊕ fraction 7 10) t) (sym far) ∙ e)))
+    by false true e f = down-size z b one h
+        (λ far. T-not (lt t (beneath b)) (le→not-lt (beneath b) t (inside .from))
+        (passes (lt t (beneath b)) (ap (λ (y : ℤ). lt t (ofInt binary64 y ⊖ fraction 7 10)) (sym far) ∙ f)))
     by false false e f = h
 
 pub farthest-small : (mode : ℕ) → farthest mode ≤ 2048
 farthest-small mode = by (eqb mode 0)
   where
-    by : (b : Bool) → choose b 137 69 ≤ 2048
+    by : (b : Bool) → choose b (farthest 0) (farthest 1) ≤ 2048
     by true = omega arith
     by false = omega arith

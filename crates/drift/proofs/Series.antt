@@ -1,8 +1,10 @@
--- Over any series of accepted samples from a fresh tracker no call before the 2,049th is refused with 9 or 10, and |shift| stays within 137 in R0 and 69 in R1.
--- The invariant (`Kept`): the rule is kept and the listed blocks are good. Each kind of call keeps it: it only counts, it goes on within a block, or it ends one, with nothing heard or with a block pushed.
+-- Over any series of samples from a fresh tracker |shift| stays within 137 in R0 and 69 in R1, and while fewer than 2,048 calls are accepted
+-- none is refused with 9 or 10.
+-- The invariant (`Kept`): the rule is kept and the listed blocks are good. Each kind of call keeps it: it only counts, it goes on within a
+-- block, or it ends one, with nothing heard or with a block pushed.
 -- Assumes nothing.
 use Prim.Native.Nat.{ℕ, zero, suc, _+_, _-_, _*_, _/_, _%_, _≤_, _<_}
-use mathlib.Core.Bool.{Bool, true, false, not, _&&_, _||_}
+use mathlib.Core.Bool.{Bool, true, false, not, _&&_, _||_, and-eq-true-iff}
 use mathlib.Core.List.{List, [], _∷_}
 use mathlib.Core.Logic.{⊎-elim}
 use mathlib.Core.Path.{_≡_, refl, sym, ap, _∙_, subst, subst⁻¹}
@@ -18,20 +20,25 @@ use lib.Seq.{getD-set-same, getD-set-other}
 use Rattle.ieee.specs.Whole.{plusZero}
 use Rattle.ieee.specs.Within.{Within}
 use Rattle.util.specs.Choose.{choose}
-use Rattle.util.specs.Refusal.{refused, accepted, afterwards}
+use Rattle.util.specs.Refusal.{Outcome, refused, accepted, afterwards}
+use Rattle.util.proofs.Choose.{by-case}
 use Rattle.frame.specs.Format.{formatOf}
-use Rattle.drift.specs.Doubles.{_⊗_, whole, within, every}
-use Rattle.drift.specs.Fit.{limitOf, nowhere, place2At, timingAt, before, goodAt, goodBlocks}
-use Rattle.drift.specs.Tracker.{blockLength, waiting, settled, countKept, placesKept, driftKept, sumsKept, shiftKept, ruleWith, numAfter, denAfter, blockOf, shiftAfter, followed, judgedOf, moved, storedOf, fittedOf, call, pushedOnto, inRange, trackAnswer}
-use Rattle.drift.specs.Series.{Burst, begun, next, after, allInRange, farthest}
-use Rattle.drift.specs.declared.Block.{Block}
+use Rattle.blocks.specs.Doubles.{_⊗_, asF64, within, every}
+use Rattle.blocks.specs.Blocks.{nowhere, place2At, timingAt, before, goodAt}
+use Rattle.fit.specs.Fit.{limitOf, goodBlocks}
+use Rattle.tracker.specs.Rule.{blockLength, waiting, inWholeBlocks, countKept, placesKept, driftKept, sumsKept, shiftKept, rule, inRange, trackAnswer}
+use Rattle.drift.specs.Call.{unpushed, numAfter, denAfter, blockOf, shiftAfter, followed, judgedOf, moved, storedOf, fittedOf, call, pushedOnto}
+use Rattle.drift.specs.Series.{Burst, begun, next, after, acceptedIn, farthest}
+use Rattle.blocks.specs.declared.Block.{Block}
 use Rattle.drift.specs.declared.Moved.{Moved}
-use Rattle.drift.specs.declared.Sample.{Sample}
-use Rattle.drift.specs.declared.Tracker.{Tracker}
-use Rattle.drift.proofs.Further.{every-at, every-same, every-true, waiting-below, length-few, length-positive, count-below, kept-is}
-use Rattle.drift.proofs.Accepted.{both, all-passed, refused-eight}
-use Rattle.drift.proofs.Signs.{within-both}
-use Rattle.drift.proofs.Bounded.{fit-within, timing-upto, zero-within}
+use Rattle.tracker.specs.declared.Sample.{Sample}
+use Rattle.tracker.specs.declared.Tracker.{Tracker}
+use Rattle.blocks.proofs.Further.{every-at, every-same, every-all, every-true}
+use Rattle.tracker.proofs.Further.{waiting-below, length-few, length-positive, count-below, kept-is}
+use Rattle.tracker.proofs.Accepted.{accepted-says, all-passed, refused-eight}
+use Rattle.tracker.proofs.Signs.{within-both}
+use Rattle.blocks.proofs.Same.{good-same}
+use Rattle.fit.proofs.Bounded.{fit-within, timing-upto, zero-within}
 use Rattle.drift.proofs.Moves.{shift-held, farthest-small}
 use Rattle.drift.proofs.Heard.{Sums, sums-none, sums-more, sums-kept, timing-within}
 
@@ -41,8 +48,8 @@ pub record Kept (mode : ℕ) (u : Burst) : Type 0 where
   pub many : length (u .blocks) ≡ 64
   pub shift : natAbs (u .tracker .shift) ≤ farthest mode
   pub stored : (j : ℕ) → j < u .tracker .n → natAbs (getD (u .shifts) j (pos 0)) ≤ 2048
-  pub count : u .tracker .blocks ≤ settled mode (u .tracker .n) / blockLength mode
-  pub places : (i : ℕ) → i < u .tracker .blocks → place2At (u .blocks) i ≤ 2 * settled mode (u .tracker .n)
+  pub count : u .tracker .blocks ≤ inWholeBlocks mode (u .tracker .n) / blockLength mode
+  pub places : (i : ℕ) → i < u .tracker .blocks → place2At (u .blocks) i ≤ 2 * inWholeBlocks mode (u .tracker .n)
   pub good : every (u .tracker .blocks) (goodAt (u .blocks)) ≡ true
   pub drift : Within (neg (limitOf (formatOf mode .symbol))) (limitOf (formatOf mode .symbol)) (u .tracker .drift)
   pub sums : Sums (waiting mode (u .tracker .n)) (u .tracker .tnum) (u .tracker .tden)
@@ -55,7 +62,8 @@ early : (b : Bool) (n : ℕ) → n + 1 < 3 → ((n + 1 - 2) % len b ≡ (n - 2) 
 early true n h = (omega arith, omega arith)
 early false n h = (omega arith, omega arith)
 
-going : (b : Bool) (n : ℕ) → 2 ≤ n → (n - 2) % len b + 1 < len b → ((n + 1 - 2) % len b ≡ (n - 2) % len b + 1) × (n + 1 - 2 - (n + 1 - 2) % len b ≡ n - 2 - (n - 2) % len b)
+going : (b : Bool) (n : ℕ) → 2 ≤ n → (n - 2) % len b + 1 < len b → ((n + 1 - 2) % len b ≡ (n - 2) % len b + 1)
+    × (n + 1 - 2 - (n + 1 - 2) % len b ≡ n - 2 - (n - 2) % len b)
 going true n h l = (omega arith, omega arith)
 going false n h l = (omega arith, omega arith)
 
@@ -71,22 +79,9 @@ ending true n h l = record { none = omega arith; all = omega arith; one = omega 
 ending false n h l = record { none = omega arith; all = omega arith; one = omega arith; blocks = omega arith }
 
 -- ---- small things
-every-all : (f : ℕ → Bool) (n : ℕ) → ((i : ℕ) → i < n → f i ≡ true) → every n f ≡ true
-unfolding every
-every-all f zero h = refl
-every-all f (suc n) h = λ i. every-all f n (λ k l. h k (omega arith)) i && h n (omega arith) i
-
-before-same : (p q : ℕ → ℕ) (i : ℕ) → ((j : ℕ) → j < i → p j ≡ q j) → before p i ≡ before q i
-before-same p q zero h = refl
-before-same p q (suc j) h = h j (omega arith)
-
 before-most : (p : ℕ → ℕ) (i m : ℕ) → ((j : ℕ) → j < i → p j ≤ m) → before p i ≤ m
 before-most p zero m h = omega arith
 before-most p (suc j) m h = h j (omega arith)
-
-by-case : (P : Moved → Type 0) (b : Bool) (x y : Moved) → (b ≡ true → P x) → (b ≡ false → P y) → P (choose b x y)
-by-case P true x y h k = h refl
-by-case P false x y h k = k refl
 
 module _ (mode : ℕ) (known : mode ≤ 1) (u : Burst) (left : u .tracker .n < 2048) (kp : Kept mode u) where
   abbrev t : Tracker
@@ -111,12 +106,13 @@ module _ (mode : ℕ) (known : mode ≤ 1) (u : Burst) (left : u .tracker .n < 2
   listed = λ i. le-leb (t .blocks) 64 (omega (arith, few)) i && kp .good i
 
   -- ---- the answer
-  rule-kept : not (eqb (t .n) 2048 || not (ruleWith mode t sh (placesKept mode t bs))) ≡ true
+  rule-kept : not (eqb (t .n) 2048 || not (rule mode t sh bs)) ≡ true
   rule-kept =
-      kept-is (t .n) (countKept mode t) (placesKept mode t bs) (driftKept mode t) (sumsKept t) (shiftKept (t .shift)) (every (t .n) (λ j. shiftKept (getD sh j (pos 0)))) left
+      kept-is (t .n) (countKept mode t) (placesKept mode t bs) (driftKept mode t) (sumsKept t) (shiftKept (t .shift))
+      (every (t .n) (λ j. shiftKept (getD sh j (pos 0)))) left
       ∙ (λ i.
-      le-leb (t .blocks) (settled mode (t .n) / L) (kp .count) i
-      && (every-all (λ j. leb (place2At bs j) (2 * settled mode (t .n))) (t .blocks) (λ j h. le-leb _ _ (kp .places j h)) i
+      le-leb (t .blocks) (inWholeBlocks mode (t .n) / L) (kp .count) i
+      && (every-all (λ j. leb (place2At bs j) (2 * inWholeBlocks mode (t .n))) (t .blocks) (λ j h. le-leb _ _ (kp .places j h)) i
       && (within-both (kp .drift) i
       && (sums-kept (waiting mode (t .n)) (omega (arith, waiting-below mode (t .n), length-few mode)) t (kp .sums) i && le-leb (natAbs (t .shift)) 2048 near i)
       && every-all (λ j. shiftKept (getD sh j (pos 0))) (t .n) (λ j h. le-leb _ _ (kp .stored j h)) i)))
@@ -152,7 +148,8 @@ module _ (mode : ℕ) (known : mode ≤ 1) (u : Burst) (left : u .tracker .n < 2
   long-stored = length-set sh (t .n) (t .shift) ∙ kp .long
 
   -- the calls before the third
-  counts : t .n + 1 < 3 → Made (record { tracker = record { n = t .n + 1; shift = t .shift; tnum = t .tnum; tden = t .tden; drift = t .drift; blocks = t .blocks }; pushed = false; block = nowhere })
+  counts : t .n + 1 < 3
+      → Made (unpushed (record { n = t .n + 1; shift = t .shift; tnum = t .tnum; tden = t .tden; drift = t .drift; blocks = t .blocks }))
   counts h =
       let e = early (eqb mode 0) (t .n) h in (
         record {
@@ -179,7 +176,8 @@ module _ (mode : ℕ) (known : mode ≤ 1) (u : Burst) (left : u .tracker .n < 2
     heard : Sums (waiting mode (t .n) + 1) num den
     heard = sums-more (waiting mode (t .n)) (omega (arith, waiting-below mode (t .n), length-few mode)) t (kp .sums) s range
 
-    follows : (d : Float) → Within (neg (limitOf (formatOf mode .symbol))) (limitOf (formatOf mode .symbol)) d → natAbs (shiftAfter (t .shift) (d ⊗ whole (t .n + 1))) ≤ farthest mode
+    follows : (d : Float) → Within (neg (limitOf (formatOf mode .symbol))) (limitOf (formatOf mode .symbol)) d
+        → natAbs (shiftAfter (t .shift) (d ⊗ asF64 (t .n + 1))) ≤ farthest mode
     follows d w = shift-held mode (t .shift) d (t .n + 1) (kp .shift) w (omega (arith, left))
 
     -- within a block
@@ -201,7 +199,7 @@ module _ (mode : ℕ) (known : mode ≤ 1) (u : Burst) (left : u .tracker .n < 2
         )
 
     module _ (last : waiting mode (t .n) + 1 ≡ L) where
-      e : Ends (t .n) (waiting mode (t .n)) (waiting mode (t .n + 1)) (settled mode (t .n)) (settled mode (t .n + 1)) L
+      e : Ends (t .n) (waiting mode (t .n)) (waiting mode (t .n + 1)) (inWholeBlocks mode (t .n)) (inWholeBlocks mode (t .n + 1)) L
       e = ending (eqb mode 0) (t .n) late last
 
       none-left : Sums (waiting mode (t .n + 1)) plusZero plusZero
@@ -240,37 +238,39 @@ module _ (mode : ℕ) (known : mode ≤ 1) (u : Burst) (left : u .tracker .n < 2
       place-old : (i : ℕ) → i < t .blocks → place2At bs′ i ≡ place2At bs i
       place-old i h = ap (λ (c : Block). c .place2) (old i h)
 
-      places′ : (i : ℕ) → i < t .blocks + 1 → place2At bs′ i ≤ 2 * settled mode (t .n + 1)
+      places′ : (i : ℕ) → i < t .blocks + 1 → place2At bs′ i ≤ 2 * inWholeBlocks mode (t .n + 1)
       places′ =
-          below-more (λ (i : ℕ). place2At bs′ i ≤ 2 * settled mode (t .n + 1)) (t .blocks)
+          below-more (λ (i : ℕ). place2At bs′ i ≤ 2 * inWholeBlocks mode (t .n + 1)) (t .blocks)
           (λ i h. omega (arith, place-old i h, kp .places i h, e .all, e .one))
           (omega (arith, ap (λ (c : Block). c .place2) new, e .all))
 
       good-old : (i : ℕ) → i < t .blocks → goodAt bs′ i ≡ goodAt bs i
-      good-old i h = λ j.
-          leb (before-same (place2At bs′) (place2At bs) i (λ k l. place-old k (omega arith)) j) (place-old i h j)
-          && (leb (place-old i h j) 4096 && within (whole 4096) (old i h j .timing))
+      good-old i h = good-same bs′ bs i (λ j l. old j (omega arith))
 
       good-new : lt plusZero den ≡ true → goodAt bs′ (t .blocks) ≡ true
       good-new p =
           let place = ap (λ (c : Block). c .place2) new in
-          let rising : before (place2At bs′) (t .blocks) ≤ 2 * settled mode (t .n) = before-most (place2At bs′) (t .blocks) (2 * settled mode (t .n)) (λ j h. omega (arith, place-old j h, kp .places j h)) in
-          let timed = timing-within mode stored (t .n - 2 + 1 - L) (waiting mode (t .n) + 1) num den (omega (arith, last, length-few mode)) heard p (λ j h. stored-small (t .n - 2 + 1 - L + j) (omega (arith, e .one))) in
+          let rising : before (place2At bs′) (t .blocks) ≤ 2 * inWholeBlocks mode (t .n) = before-most (place2At bs′) (t .blocks)
+          (2 * inWholeBlocks mode (t .n)) (λ j h. omega (arith, place-old j h, kp .places j h)) in
+          let timed = timing-within mode stored (t .n - 2 + 1 - L) (waiting mode (t .n) + 1) num den (omega (arith, last, length-few mode)) heard p
+          (λ j h. stored-small (t .n - 2 + 1 - L + j) (omega (arith, e .one))) in
           λ j. le-leb (before (place2At bs′) (t .blocks)) (place2At bs′ (t .blocks)) (omega (arith, place, rising, e .one, length-positive mode)) j
-          && (le-leb (place2At bs′ (t .blocks)) 4096 (omega (arith, place, left)) j && (ap (λ (c : Block). within (whole 4096) (c .timing)) new ∙ timed) j)
+          && (le-leb (place2At bs′ (t .blocks)) 4096 (omega (arith, place, left)) j && (ap (λ (c : Block). within (asF64 4096) (c .timing)) new ∙ timed) j)
 
       good′ : lt plusZero den ≡ true → every (t .blocks + 1) (goodAt bs′) ≡ true
       good′ p = every-true (goodAt bs′) (t .blocks) (every-same (goodAt bs′) (goodAt bs) (t .blocks) good-old ∙ kp .good) (good-new p)
 
-      ranged : lt plusZero den ≡ true → (i : ℕ) → i < t .blocks + 1 → (leb (place2At bs′ i) 4096 ≡ true) × (within (whole 4096) (timingAt bs′ i) ≡ true)
+      ranged : lt plusZero den ≡ true → (i : ℕ) → i < t .blocks + 1 → (leb (place2At bs′ i) 4096 ≡ true) × (within (asF64 4096) (timingAt bs′ i) ≡ true)
       ranged p i h =
-          both (leb (place2At bs′ i) 4096) (within (whole 4096) (timingAt bs′ i))
-          (both (leb (before (place2At bs′) i) (place2At bs′ i)) _ (every-at (goodAt bs′) (t .blocks + 1) i h (good′ p)) .1)
+          and-eq-true-iff (leb (place2At bs′ i) 4096) (within (asF64 4096) (timingAt bs′ i)) .0
+          (and-eq-true-iff (leb (before (place2At bs′) i) (place2At bs′ i)) _ .0 (every-at (goodAt bs′) (t .blocks + 1) i h (good′ p)) .1)
 
-      pushes : lt plusZero den ≡ true → Made (record { tracker = followed t plusZero plusZero (fittedOf mode t bs b) (t .blocks + 1); pushed = true; block = b })
+      pushes : lt plusZero den ≡ true
+          → Made (record { tracker = followed t plusZero plusZero (fittedOf mode t bs b) (t .blocks + 1); pushed = true; block = b })
       pushes p =
           let fitted =
-          fit-within mode (t .blocks + 1) (place2At bs′) (timingAt bs′) (omega (arith, few)) (λ i h. leb-true _ _ (ranged p i h .0)) (λ i h. timing-upto (timingAt bs′ i) (ranged p i h .1)) in (
+          fit-within mode (t .blocks + 1) (place2At bs′) (timingAt bs′) (omega (arith, few)) (λ i h. leb-true _ _ (ranged p i h .0))
+          (λ i h. timing-upto (timingAt bs′ i) (ranged p i h .1)) in (
             record {
               long = long-stored;
               many = length-set bs (t .blocks) b ∙ kp .many;
@@ -292,26 +292,48 @@ module _ (mode : ℕ) (known : mode ≤ 1) (u : Burst) (left : u .tracker .n < 2
       by-case Made (ltb (t .n + 1) 3) _ _ (λ h. counts (ltb-true (t .n + 1) 3 h)) (λ h.
       let late : 2 ≤ t .n = omega (arith, ltb-false (t .n + 1) 3 h) in
       by-case Made (eqb (waiting mode (t .n) + 1) L) _ _
-      (λ l. let last = eqb-true (waiting mode (t .n) + 1) L l in by-case Made (lt plusZero (denAfter t s)) _ _ (pushes s range late last) (λ _. empty s range late last))
-      (λ l. goes s range late (⊎-elim (λ e. absurd (eqb-false _ _ l e)) (λ h. h) (eq-or-lt-of-le {n = waiting mode (t .n) + 1} {m = L} (omega (arith, waiting-below mode (t .n)))))))
+      (λ l. let last = eqb-true (waiting mode (t .n) + 1) L l in by-case Made (lt plusZero (denAfter t s)) _ _ (pushes s range late last)
+      (λ _. empty s range late last))
+      (λ l. goes s range late
+      (⊎-elim (λ e. absurd (eqb-false _ _ l e)) (λ h. h) (eq-or-lt-of-le {n = waiting mode (t .n) + 1} {m = L} (omega (arith, waiting-below mode (t .n)))))))
 
-  pub one-more : (s : Sample) → inRange s ≡ true → Kept mode (next mode u s) × (next mode u s .tracker .n ≡ t .n + 1)
-  one-more s range =
-      let e : trackAnswer mode t sh bs s ≡ accepted tt = answered s ∙ ap (λ (b : Bool). choose b (accepted tt) (refused 8)) range in
-      let m = call mode t sh bs s in
-      subst⁻¹ (λ (v : Burst). Kept mode v × (v .tracker .n ≡ t .n + 1))
-      (λ i. record { tracker = afterwards (e i) t (m .tracker); shifts = afterwards (e i) sh stored; blocks = afterwards (e i) bs (pushedOnto t bs m) })
-      (moves s range)
+-- a call, accepted or refused: a refused one leaves all as it was
+one-more : (mode : ℕ) → mode ≤ 1 → (u : Burst) (s : Sample) → Kept mode u
+    → Kept mode (next mode u s) × (next mode u s .tracker .n ≡ u .tracker .n + afterwards (trackAnswer mode (u .tracker) (u .shifts) (u .blocks) s) 0 1)
+one-more mode known u s kp = by answer refl
+  where
+    answer : Outcome Unit
+    answer = trackAnswer mode (u .tracker) (u .shifts) (u .blocks) s
+
+    m : Moved
+    m = call mode (u .tracker) (u .shifts) (u .blocks) s
+
+    left : Outcome Unit → Burst
+    left o =
+        record {
+          tracker = afterwards o (u .tracker) (m .tracker);
+          shifts = afterwards o (u .shifts) (storedOf (u .tracker) (u .shifts));
+          blocks = afterwards o (u .blocks) (pushedOnto (u .tracker) (u .blocks) m);
+        }
+
+    Goes : Outcome Unit → Type 0
+    Goes o = Kept mode (left o) × (left o .tracker .n ≡ u .tracker .n + afterwards o 0 1)
+
+    by : (o : Outcome Unit) → answer ≡ o → Goes answer
+    by (refused k) e = subst⁻¹ Goes e (kp, omega arith)
+    by (accepted tt) e =
+        let listed = goodBlocks (u .tracker .blocks) (u .blocks) in
+        let ok = accepted-says mode (u .tracker) (u .shifts) (length (u .blocks)) s (placesKept mode (u .tracker) (u .blocks)) listed e in
+        subst⁻¹ Goes e (moves mode known u (ok .calls) kp s (ok .range))
 
 -- ---- a whole series
-goes-on : (mode : ℕ) → mode ≤ 1 → (ss : List Sample) (u : Burst) → allInRange ss ≡ true → u .tracker .n + length ss ≤ 2048 → Kept mode u
-    → Kept mode (after mode u ss) × (after mode u ss .tracker .n ≡ u .tracker .n + length ss)
-unfolding after allInRange
-goes-on mode known [] u e h kp = (kp, omega arith)
-goes-on mode known (s ∷ ss) u e h kp =
-    let r = both (inRange s) (allInRange ss) e in
-    let step = one-more mode known u (omega (arith, h)) kp s (r .0) in
-    let rest = goes-on mode known ss (next mode u s) (r .1) (omega (arith, h, step .1)) (step .0) in
+goes-on : (mode : ℕ) → mode ≤ 1 → (ss : List Sample) (u : Burst) → Kept mode u
+    → Kept mode (after mode u ss) × (after mode u ss .tracker .n ≡ u .tracker .n + acceptedIn mode u ss)
+unfolding after acceptedIn
+goes-on mode known [] u kp = (kp, omega arith)
+goes-on mode known (s ∷ ss) u kp =
+    let step = one-more mode known u s kp in
+    let rest = goes-on mode known ss (next mode u s) (step .0) in
     (rest .0, omega (arith, rest .1, step .1))
 
 begins : (mode : ℕ) (shifts : List ℤ) (blocks : List Block) → length shifts ≡ 2048 → length blocks ≡ 64 → Kept mode (begun shifts blocks)
@@ -333,16 +355,23 @@ begins mode shifts blocks long many =
     none true = omega arith
     none false = omega arith
 
-module _ (mode : ℕ) (known : mode ≤ 1) (shifts : List ℤ) (blocks : List Block) (long : length shifts ≡ 2048) (many : length blocks ≡ 64) (ss : List Sample) (range : allInRange ss ≡ true) where
+module _ (mode : ℕ) (known : mode ≤ 1) (shifts : List ℤ) (blocks : List Block) (long : length shifts ≡ 2048) (many : length blocks ≡ 64)
+    (ss : List Sample) where
   abbrev reached : Burst
   reached = after mode (begun shifts blocks) ss
 
-  -- |shift| ≤ 137 in R0 and 69 in R1
-  pub shift-bounded : length ss ≤ 2048 → natAbs (reached .tracker .shift) ≤ farthest mode
-  shift-bounded h = goes-on mode known ss (begun shifts blocks) range (omega arith) (begins mode shifts blocks long many) .0 .shift
+  all : Kept mode reached × (reached .tracker .n ≡ 0 + acceptedIn mode (begun shifts blocks) ss)
+  all = goes-on mode known ss (begun shifts blocks) (begins mode shifts blocks long many)
 
-  -- no call before the 2,049th is refused with 9 or 10: the next one is accepted, or its sample is out of range
-  pub never-refused : length ss < 2048 → (s : Sample) → trackAnswer mode (reached .tracker) (reached .shifts) (reached .blocks) s ≡ choose (inRange s) (accepted tt) (refused 8)
-  never-refused h s =
-      let all = goes-on mode known ss (begun shifts blocks) range (omega arith) (begins mode shifts blocks long many) in
-      answered mode known reached (omega (arith, all .1)) (all .0) s
+  -- n counts the accepted calls
+  pub calls-counted : reached .tracker .n ≡ acceptedIn mode (begun shifts blocks) ss
+  calls-counted = omega (arith, all .1)
+
+  -- |shift| ≤ 137 in R0 and 69 in R1
+  pub shift-bounded : natAbs (reached .tracker .shift) ≤ farthest mode
+  shift-bounded = all .0 .shift
+
+  -- while fewer than 2,048 calls are accepted none is refused with 9 or 10: the next one is accepted, or its sample is out of range
+  pub never-refused : acceptedIn mode (begun shifts blocks) ss < 2048 → (s : Sample)
+      → trackAnswer mode (reached .tracker) (reached .shifts) (reached .blocks) s ≡ choose (inRange s) (accepted tt) (refused 8)
+  never-refused h s = answered mode known reached (omega (arith, all .1)) (all .0) s

@@ -1,6 +1,5 @@
 -- What a reader must believe of this crate, in document 01's order.
-pub mod Doubles
-pub mod Fit
-pub mod Tracker
+pub mod Call
 pub mod Series
+pub mod Lists
 pub mod Inside

@@ -1,14 +1,15 @@
 -- Document 01, 'Drift': a burst's calls, one after another, from a fresh tracker.
-use Prim.Native.Nat.{ℕ}
-use mathlib.Core.Bool.{Bool, true, _&&_}
+use Prim.Native.Nat.{ℕ, _+_}
 use mathlib.Core.List.{List, [], _∷_}
 use lib.Dec.{eqb}
 use lib.IntN.{ℤ}
 use Rattle.util.specs.Choose.{choose}
-use Rattle.drift.specs.Tracker.{freshOf, inRange, trackerAfter, shiftsAfter, blocksAfter}
-use Rattle.drift.specs.declared.Block.{Block}
-use Rattle.drift.specs.declared.Sample.{Sample}
-use Rattle.drift.specs.declared.Tracker.{Tracker}
+use Rattle.util.specs.Refusal.{afterwards}
+use Rattle.tracker.specs.Rule.{freshOf, trackAnswer}
+use Rattle.drift.specs.Call.{trackerAfter, shiftsAfter, blocksAfter}
+use Rattle.blocks.specs.declared.Block.{Block}
+use Rattle.tracker.specs.declared.Sample.{Sample}
+use Rattle.tracker.specs.declared.Tracker.{Tracker}
 
 -- a tracker with its lists
 pub record Burst : Type 0 where
@@ -28,15 +29,15 @@ next mode u s =
       blocks = blocksAfter mode (u .tracker) (u .shifts) (u .blocks) s;
     }
 
--- after a series of samples
+-- after a series of samples, whichever of them are refused
 unfoldable pub after : ℕ → Burst → List Sample → Burst
 after mode u [] = u
 after mode u (s ∷ ss) = after mode (next mode u s) ss
 
--- each sample is accepted
-unfoldable pub allInRange : List Sample → Bool
-allInRange [] = true
-allInRange (s ∷ ss) = inRange s && allInRange ss
+-- how many calls of a series are accepted
+unfoldable pub acceptedIn : ℕ → Burst → List Sample → ℕ
+acceptedIn mode u [] = 0
+acceptedIn mode u (s ∷ ss) = afterwards (trackAnswer mode (u .tracker) (u .shifts) (u .blocks) s) 0 1 + acceptedIn mode (next mode u s) ss
 
 -- |shift| ≤ 137 in R0, 69 in R1
 abbrev pub farthest : ℕ → ℕ

@@ -19,7 +19,8 @@ use Rattle.conv.specs.Sent.{bitsOf, stepLabel, labels, sentValues}
 use Rattle.conv.proofs.Linear.{computed, label-computed}
 use Rattle.conv.proofs.Slots.{labels-at, labels-only}
 
-pub register-labels : (labelOf 0 ≡ 0) × (labelOf 1 ≡ 31) × (labelOf 2 ≡ 26) × (labelOf 3 ≡ 5) × (labelOf 16384 ≡ 31) × (labelOf 16385 ≡ 0) × (labelOf 32767 ≡ 10)
+pub register-labels : (labelOf 0 ≡ 0) × (labelOf 1 ≡ 31) × (labelOf 2 ≡ 26) × (labelOf 3 ≡ 5) × (labelOf 16384 ≡ 31)
+    × (labelOf 16385 ≡ 0) × (labelOf 32767 ≡ 10)
 unfolding computed onesIn
 register-labels = (label-computed 0, label-computed 1, label-computed 2, label-computed 3, label-computed 16384, label-computed 16385, label-computed 32767)
 

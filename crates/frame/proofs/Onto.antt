@@ -9,6 +9,7 @@ use native.Mathlib.Omega.{arith}
 use borrow.Author.Tests.{eqb-true, eqb-false}
 use lib.Dec.{eqb}
 use Rattle.util.specs.Choose.{choose}
+use Rattle.util.proofs.Choose.{chosen, not-chosen}
 use Rattle.frame.specs.Air.{slotOf}
 use Rattle.frame.proofs.Air.{slot-within, slots-differ}
 
@@ -26,8 +27,8 @@ unfolding instead
 instead-cases g v w f i = by (eqb (g i) v) refl
   where
     by : (t : Bool) → eqb (g i) v ≡ t → ((g i ≡ v) × (choose (eqb (g i) v) w (f i) ≡ w)) ⊎ ((g i ≡ v → ⊥) × (choose (eqb (g i) v) w (f i) ≡ f i))
-    by true e = inl (eqb-true (g i) v e, ap (λ (t : Bool). choose t w (f i)) e)
-    by false e = inr (eqb-false (g i) v e, ap (λ (t : Bool). choose t w (f i)) e)
+    by true e = inl (eqb-true (g i) v e, chosen w (f i) e)
+    by false e = inr (eqb-false (g i) v e, not-chosen w (f i) e)
 
 -- is one to one where g has the value v but once, and f is one to one elsewhere and has not the value w there
 instead-within : (n m : ℕ) (g : ℕ → ℕ) (v w : ℕ) (f : ℕ → ℕ)

@@ -3,9 +3,9 @@
 use Prim.Native.Nat.{ℕ}
 use mathlib.Core.List.{List}
 use mathlib.Core.Path.{_≡_, refl}
-use Rattle.util.specs.Refusal.{refused}
+use Rattle.util.specs.Refusal.{refused, NoneBelow}
 use Rattle.util.specs.Crc.{crcOf}
-use Rattle.util.proofs.Lowest.{NoneBelow, lowest}
+use Rattle.util.proofs.Lowest.{lowest}
 use Rattle.frame.specs.Crc.{startOf, causes, crcAnswer}
 
 pub crc-lowest : (mode kind : ℕ) (bits : List ℕ) (k : ℕ) → crcAnswer mode kind bits ≡ refused k → NoneBelow k (causes mode kind bits)

@@ -1,16 +1,10 @@
-// The air order (phy_mfsk/frame.rs): the formats of the two modes, hops, bins and places, header
-// slots, scramblers, and the CRC by mode and kind, which is a public entry. Definitions in specs/.
+// The air order (phy_mfsk/frame.rs): the formats of the two modes, hops, bins and places, header slots, and the CRC by
+// mode and kind, which is a public entry. Definitions in specs/.
 ghost use mathlib.Core.Path.{_≡_};
-ghost use Prim.Native.Nat.{_+_, _*_, _≤_, _<_};
+ghost use Prim.Native.Nat.{_≤_, _<_};
 ghost use mathlib.Core.List.{[], _∷_};
-ghost use lib.Dec.{eqb};
-ghost use lib.Ieee.{nan, neg};
-ghost use lib.ListN.{length, getD};
-ghost use lib.Bits.{bitXor};
-ghost use Rattle.util.specs.Choose.{choose};
-ghost use Rattle.util.specs.Table.{tabled, rows, Stored};
 ghost use Rattle.frame.specs.Format.{r0, r1, formatOf, headerBits, named, listed};
-ghost use Rattle.frame.specs.Air.{hopOf, binOf, placeOf, slotOf, scrambleOf, symScrambleOf, bitBack, symBack};
+ghost use Rattle.frame.specs.Air.{hopOf, binOf, placeOf, slotOf};
 ghost use Rattle.frame.specs.Crc.{startOf, someAboveOne, meaning, crcAnswer};
 
 // 28 ms symbols on a 50 Hz grid.
@@ -28,13 +22,14 @@ impl R0 {
     // for HeaderOnly, Data, Cue
     pub const CRC_STARTS: [u16; 3] = [0xFFFF, 0x1D0F, 0x93E5];
 
-    // Hop of header or data symbol i, counted from the first header symbol.
+    // Inside: hop of header or data symbol i, counted from the first header symbol.
     pub fn hop(i: u64) -> u64
         ensures { λ r. ⌜ r ≡ hopOf (r0 .bins) i ⌝ }
     {
         hop_among(R0::BINS, i)
     }
 
+    // Inside: whether a window is one of the mode's.
     pub fn has_window(window: u32) -> bool
         ensures { λ r. ⌜ r ≡ listed window (r0 .windows) ⌝ }
     {
@@ -51,12 +46,14 @@ impl R1 {
 
     pub const CRC_STARTS: [u16; 3] = [0xB4C8, 0x6A39, 0x2C7B];
 
+    // Inside: as in R0.
     pub fn hop(i: u64) -> u64
         ensures { λ r. ⌜ r ≡ hopOf (r1 .bins) i ⌝ }
     {
         hop_among(R1::BINS, i)
     }
 
+    // Inside: whether a window is one of the mode's.
     pub fn has_window(window: u32) -> bool
         ensures { λ r. ⌜ r ≡ listed window (r1 .windows) ⌝ }
     {
@@ -77,20 +74,21 @@ fn one_of(a: u32, b: u32, c: u32, x: u32) -> bool
     x == c
 }
 
-// The bins of a mode's grid. (Below, a mode that is not 0 is taken for 1: the entries refuse others.)
+// Inside: the bins of a mode's grid. (Below, a mode that is not 0 is taken for 1: the entries refuse others.)
 pub fn bins(mode: u8) -> u64
     ensures { λ r. ⌜ r ≡ formatOf mode .bins ⌝ }
 {
     if mode == 0 { R0::BINS } else { R1::BINS }
 }
 
-// A symbol's length in samples.
+// Inside: a symbol's length in samples.
 pub fn symbol(mode: u8) -> u32
     ensures { λ r. ⌜ r ≡ formatOf mode .symbol ⌝ }
 {
     if mode == 0 { R0::SYMBOL } else { R1::SYMBOL }
 }
 
+// Inside: whether a window is one of the mode's.
 pub fn has_window(mode: u8, window: u32) -> bool
     ensures { λ r. ⌜ r ≡ listed window (formatOf mode .windows) ⌝ }
 {
@@ -101,7 +99,7 @@ pub fn has_window(mode: u8, window: u32) -> bool
     }
 }
 
-// Whether mode and kind are named.
+// Inside: whether mode and kind are named.
 pub fn is_named(mode: u8, kind: u8) -> bool
     ensures { λ r. ⌜ r ≡ named mode kind ⌝ }
 {
@@ -111,7 +109,7 @@ pub fn is_named(mode: u8, kind: u8) -> bool
     kind <= 2
 }
 
-// Header symbols, which are as many as header bits.
+// Inside: header symbols, which are as many as header bits.
 pub fn header_symbols(kind: u8) -> u64
     ensures { λ r. ⌜ r ≡ headerBits kind ⌝ }
 {
@@ -126,6 +124,7 @@ pub fn hop_among(bins: u64, i: u64) -> u64
     util::mix64(i ^ 0x4D46_534B_484F_5000) % bins
 }
 
+// Inside: hop of header or data symbol i in a mode.
 pub fn hop(mode: u8, i: u64) -> u64
     ensures { λ r. ⌜ r ≡ hopOf (formatOf mode .bins) i ⌝ }
 {
@@ -164,67 +163,6 @@ pub fn header_slot(kind: u8, j: u64) -> u64
     slot(header_symbols(kind), j)
 }
 
-// Scrambling bit of data bit p.
-pub fn scramble(p: u64) -> u64
-    ensures { λ r. ⌜ r ≡ scrambleOf p ⌝ }
-{
-    util::mix64(p ^ 0x5343_5241_4D42_4C45) % 2
-}
-
-// Scrambling value of code symbol p of a symbol-mapped burst.
-pub fn sym_scramble(p: u64) -> u64
-    ensures { λ r. ⌜ r ≡ symScrambleOf p ⌝ }
-{
-    util::mix64(p ^ 0x5359_4D42_5343_524D) % 32
-}
-
-// The soft bit of data bit p, from what its slot holds.
-fn unscrambled(l: f32, p: u64) -> f32
-    ensures { λ r. ⌜ r ≡ choose (eqb (scrambleOf p) 1) (neg l) l ⌝ }
-{
-    if scramble(p) == 1 {
-        return -l;
-    }
-    l
-}
-
-// Inside: slot soft bits back in data-bit order, with the scrambling removed.
-pub fn deinterleave(n: u64, slots: &[f32], out: &mut [f32])
-    requires { ⌜ (n ≤ 10240) × (n ≤ length (now slots)) × (length (now out) ≤ n) ⌝ }
-    ensures { λ r. ⌜ now (out .exit) ≡ tabled (length (now (out .entry))) (bitBack n (λ s. getD (now (slots .entry)) s nan)) ⌝ }
-{
-    let a = util::mult(n);
-    for p in 0..out.len() {
-        let s = (a * (p as u64) % n) as usize;
-        out[p] = unscrambled(slots[s], p as u64);
-    }
-}
-
-// The 32 metrics of code symbol p, whose scrambling value is r, from slot s.
-fn take_symbol(slots: &[f32], s: usize, r: u64, out: &mut [f32], p: usize)
-    requires { ⌜ (r < 32) × (32 * s + 32 ≤ length (now slots)) × (32 * p + 32 ≤ length (now out)) ⌝ }
-    ensures { λ e. ⌜ Stored nan 32 (32 * p) (λ c. getD (now (slots .entry)) (32 * s + bitXor c r) nan) (now (out .entry)) (now (out .exit)) ⌝ }
-{
-    let from = 32 * s;
-    let to = 32 * p;
-    for c in 0..32usize {
-        let v = ((c as u64) ^ r) as usize;
-        out[to + c] = slots[from + v];
-    }
-}
-
-// Inside: the metrics of n slots back in code-symbol order and code-symbol values.
-pub fn deinterleave_sym(n: u64, slots: &[f32], out: &mut [f32])
-    requires { ⌜ (n ≤ 10240) × (length (now slots) ≡ 32 * n) × (length (now out) ≡ 32 * n) ⌝ }
-    ensures { λ e. ⌜ now (out .exit) ≡ tabled (32 * n) (rows 32 (symBack n (λ s v. getD (now (slots .entry)) (32 * s + v) nan))) ⌝ }
-{
-    let a = util::mult(n);
-    for p in 0..n {
-        let s = (a * p % n) as usize;
-        take_symbol(slots, s, sym_scramble(p), out, p as usize);
-    }
-}
-
 // Inside: the CRC's start carries mode and kind, so that a header read under another fails its check.
 pub fn crc_init(mode: u8, kind: u8) -> u16
     requires { ⌜ kind ≤ 2 ⌝ }
@@ -238,8 +176,8 @@ pub fn crc_init(mode: u8, kind: u8) -> u16
     }
 }
 
-// Whether some byte is no bit.
-pub fn no_bits(bits: &[u8]) -> bool
+// Inside: whether some byte is above 1, so that it is no bit.
+pub fn some_above_one(bits: &[u8]) -> bool
     ensures { λ r. ⌜ r ≡ someAboveOne (now (bits .entry)) ⌝ }
 {
     for i in 0..bits.len() {
@@ -266,7 +204,7 @@ pub fn crc(mode: u8, kind: u8, bits: &[u8]) -> Crc16
     if bits.len() > 1024 {
         return Crc16::Refused(4);
     }
-    if no_bits(bits) {
+    if some_above_one(bits) {
         return Crc16::Refused(5);
     }
     Crc16::Value(util::crc16(bits, crc_init(mode, kind)))

@@ -3,8 +3,8 @@ use Prim.Native.Nat.{ℕ}
 use mathlib.Core.List.{List}
 use mathlib.Core.Path.{_≡_, refl}
 use lib.Ieee.{Float}
-use Rattle.util.specs.Refusal.{refused}
-use Rattle.util.proofs.Lowest.{NoneBelow, lowest}
+use Rattle.util.specs.Refusal.{refused, NoneBelow}
+use Rattle.util.proofs.Lowest.{lowest}
 use Rattle.trellis.specs.Terms.{documentSearch}
 use Rattle.header.specs.Read.{Areas, causes, headerRead}
 

@@ -1,18 +1,15 @@
-// The header read: terms to metrics, the search over lent areas, the answer, the refusals. Its promise
+// The header read: the search over its steps' metrics and lent areas, the answer, the refusals. Its promise
 // carries demand 3 and what holds for any terms. Definitions in specs/ and in crate trellis.
 ghost use mathlib.Core.Path.{_≡_};
 ghost use mathlib.Core.Bool.{false};
-ghost use Prim.Native.Nat.{ℕ, _+_, _*_, _<_};
-ghost use lib.Ieee.{nan};
-ghost use lib.ListN.{length, getD, replicate};
-ghost use Rattle.util.specs.Table.{Stored};
+ghost use Prim.Native.Nat.{_*_};
+ghost use lib.ListN.{length, replicate};
 ghost use Rattle.ieee.specs.Whole.{plusZero};
 ghost use Rattle.frame.specs.Format.{headerBits};
 ghost use Rattle.trellis.specs.Answer.{Answer, outcomeOf};
 ghost use Rattle.trellis.specs.Terms.{documentSearch};
 ghost use Rattle.trellis.specs.Demand.{Claims};
-ghost use Rattle.search.specs.Found.{way};
-ghost use Rattle.header.specs.Rows.{Row, Rows};
+ghost use Rattle.search.specs.Found.{howIs};
 ghost use Rattle.header.specs.Read.{meaning, outcomeIs, answerIs, Room, areas, lengthsRight, headerRead, areaAfter};
 
 // How sure the word is: out by closing in a pass (1 to 3), the best candidate after three passes, or
@@ -37,46 +34,12 @@ pub enum HeaderRead {
 
 // The outcome that the search's way to its word makes.
 fn outcome_of(how: search::How, score: f32) -> Outcome
-    ensures { λ r. ⌜ outcomeIs r ≡ outcomeOf (way how) score ⌝ }
+    ensures { λ r. ⌜ outcomeIs r ≡ outcomeOf (howIs how) score ⌝ }
 {
     match how {
         search::How::Closing(pass) => Outcome::Sure(score, pass),
         search::How::Candidate => Outcome::Kept(score),
         search::How::Unclosed => Outcome::Open(score),
-    }
-}
-
-// The 32 metrics of step j: those of its slot.
-fn row(mode: u8, kind: u8, terms: &[f32], j: u64) -> [f32; 32]
-    requires { ⌜ (j < headerBits kind) × (length (now terms) ≡ headerBits kind * 260) ⌝ }
-    ensures { λ r. ⌜ Row mode kind (now (terms .entry)) j r ⌝ }
-{
-    let slot = frame::header_slot(kind, j);
-    let bins = frame::bins(mode);
-    let hop = frame::hop(mode, slot);
-    model::metrics(bins, hop, terms, slot as usize)
-}
-
-// Lays the metrics of step j into the list of all steps.
-fn lay(row: &[f32; 32], list: &mut [f32], j: usize)
-    requires { ⌜ (length (now list) ≡ 2048) × (j < 64) ⌝ }
-    ensures { λ _. ⌜ Stored nan 32 (32 * j) (λ v. getD (now (row .entry)) v nan) (now (list .entry)) (now (list .exit)) ⌝ }
-{
-    for v in 0..32usize {
-        list[32 * j + v] = row[v];
-    }
-}
-
-// The metrics of all steps.
-fn rows(mode: u8, kind: u8, terms: &[f32], list: &mut [f32])
-    requires { ⌜ (length (now terms) ≡ headerBits kind * 260) × (length (now list) ≡ 2048) ⌝ }
-    ensures { λ _. ⌜ Rows mode kind (now (terms .entry)) (headerBits kind) (now (list .exit)) ⌝ }
-    ensures size { λ _. ⌜ length (now (list .exit)) ≡ 2048 ⌝ }
-{
-    let n = frame::header_symbols(kind) as usize;
-    for j in 0..n {
-        let metrics = row(mode, kind, terms, j as u64);
-        lay(&metrics, list, j);
     }
 }
 
@@ -95,7 +58,7 @@ fn searched(
     ensures room { λ _. ⌜ Room kind (areas (now (scores .exit)) (now (next .exit)) (now (start .exit)) (now (decisions .exit))) ⌝ }
 {
     let mut list = [0.0f32; 2048];
-    rows(mode, kind, terms, &mut list);
+    steps::rows(mode, kind, terms, &mut list);
     let n = frame::header_symbols(kind) as usize;
     let found = search::search(&list[..32 * n], scores, next, start, decisions);
     let how = found.how;
@@ -149,7 +112,8 @@ pub fn read_header(
     start: &mut [f32],
     decisions: &mut [u64],
 ) -> HeaderRead
-    ensures answer { λ r. ⌜ meaning r ≡ headerRead mode kind (now (terms .entry)) (areas (now (scores .entry)) (now (next .entry)) (now (start .entry)) (now (decisions .entry))) ⌝ }
+    ensures answer { λ r. ⌜ meaning r ≡ headerRead mode kind (now (terms .entry))
+        (areas (now (scores .entry)) (now (next .entry)) (now (start .entry)) (now (decisions .entry))) ⌝ }
     ensures of_scores { λ r. ⌜ now (scores .exit) ≡ areaAfter (meaning r) plusZero (now (scores .entry)) ⌝ }
     ensures of_next { λ r. ⌜ now (next .exit) ≡ areaAfter (meaning r) plusZero (now (next .entry)) ⌝ }
     ensures of_start { λ r. ⌜ now (start .exit) ≡ areaAfter (meaning r) plusZero (now (start .entry)) ⌝ }

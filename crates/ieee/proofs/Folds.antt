@@ -1,8 +1,9 @@
--- Sums of whole floats from the left: the result is the integers' sum, as a float, of the size that the terms allow. Each step is exact, since the partial sums stay within 2 ^ prec.
--- Assumes nothing.
-use mathlib.Core.Path.{_≡_, refl, ap, _∙_}
+-- Runs from the left. Of any operation: one step more, equal terms, what each step keeps. Of whole floats: the sum is the integers' sum, as a float,
+-- of the size that the terms allow, and each step is exact, since the partial sums stay within 2 ^ prec. Assumes nothing.
+use mathlib.Core.Path.{_≡_, refl, sym, ap, ap₂, _∙_}
 use Prim.Native.Nat.{ℕ, zero, suc, _+_, _*_, _^_, _≤_, _<_}
 use native.Mathlib.Nat.{le-refl, le-trans}
+use native.Mathlib.Numerals.{add-one}
 use native.Mathlib.Omega.{arith}
 use lib.IntN.{ℤ, pos, natAbs, _+ℤ_}
 use lib.Ieee.{Float, Format, binary32, binary64, prec, add, ofInt}
@@ -10,8 +11,32 @@ use Rattle.ieee.specs.Whole.{plusZero, Whole, run}
 use Rattle.ieee.proofs.Integers.{abs-add}
 use Rattle.ieee.proofs.Values.{add-ofInt}
 
+-- one step more
+pub run-next : {A : Type 0} (op : A → A → A) (a : A) (x : ℕ → A) (n : ℕ) → run op a x (n + 1) ≡ op (run op a x n) (x n)
+unfolding run
+run-next op a x n = ap (run op a x) (add-one n)
+
+-- what is passed so far, and one more
+pub run-further : {A : Type 0} (op : A → A → A) (a : A) (x : ℕ → A) (n : ℕ) {s : A} → s ≡ run op a x n → op s (x n) ≡ run op a x (n + 1)
+run-further {A} op a x n e = ap (λ (s : A). op s (x n)) e ∙ sym (run-next op a x n)
+
+-- equal terms
+pub run-same : {A : Type 0} (op : A → A → A) (a : A) (x y : ℕ → A) (n : ℕ) → ((i : ℕ) → i < n → x i ≡ y i) → run op a x n ≡ run op a y n
+unfolding run
+run-same op a x y zero e = refl
+run-same op a x y (suc n) e = ap₂ op (run-same op a x y n (λ i h. e i (omega arith))) (e n (omega arith))
+
+-- what the start has, and each step keeps, the run has
+pub run-keeps : {A : Type 0} (P : A → Type 0) (op : A → A → A) (a : A) (x : ℕ → A) (n : ℕ) → P a → ((i : ℕ) (p : A) → i < n → P p → P (op p (x i)))
+    → P (run op a x n)
+unfolding run
+run-keeps P op a x zero s step = s
+run-keeps P op a x (suc n) s step = step n (run op a x n) (omega arith) (run-keeps P op a x n s (λ i p h. step i p (omega arith)))
+
+-- ---- whole floats
 -- from any integer's float
-pub run-whole : (f : Format) (b c : ℕ) (a : ℤ) (x : ℕ → Float) (z : ℕ → ℤ) (n : ℕ) → natAbs a ≤ c → ((i : ℕ) → i < n → Whole (x i) (z i) × (natAbs (z i) ≤ b)) → c + b * n ≤ 2 ^ prec f
+pub run-whole : (f : Format) (b c : ℕ) (a : ℤ) (x : ℕ → Float) (z : ℕ → ℤ) (n : ℕ) → natAbs a ≤ c
+    → ((i : ℕ) → i < n → Whole (x i) (z i) × (natAbs (z i) ≤ b)) → c + b * n ≤ 2 ^ prec f
     → (run (add f) (ofInt f a) x n ≡ ofInt f (run _+ℤ_ a z n)) × (natAbs (run _+ℤ_ a z n) ≤ c + b * n)
 unfolding run
 run-whole f b c a x z zero h w k = (refl, omega arith)

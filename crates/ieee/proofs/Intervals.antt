@@ -1,12 +1,11 @@
--- Rules for floats in a range: from the ranges of the operands to that of the result, by the corners. The ends are floats, so at literals they compute.
--- Assumes nothing.
-use mathlib.Core.Path.{_≡_, refl, ap, subst}
+-- Rules for floats in a range: from the ranges of the operands to that of the result, by the corners. The ends are
+-- floats, so at literals they compute. Assumes nothing.
+use mathlib.Core.Path.{_≡_, subst}
 use mathlib.Core.Logic.{_⊎_, inl, inr}
 use native.Mathlib.Omega.{arith}
 use mathlib.Core.Bool.{Bool, true, false, not, _&&_, cond}
-use Prim.Native.Nat.{_*_}
-use lib.Dec.{T, eqb}
-use lib.Ieee.{Float, nan, inf, fin, Format, up, down, unlike, round, add, sub, mul, div, neg, lt, le, isNan}
+use lib.Dec.{T}
+use lib.Ieee.{Float, nan, inf, fin, Format, add, sub, mul, div, neg, lt, le, isNan}
 use lib.Ieee.Fits.{and-l, and-r}
 use lib.Ieee.Scale.{finite}
 use lib.Ieee.Positive.{positive, between}
@@ -52,7 +51,8 @@ neg-in {l} {h} {x} w = record { from = neg-le x h (w .to); to = neg-le l x (w .f
 -- ---- sums
 pub add-in : {a b c d x y : Float} (f : Format) (l h : Float) → Within a b x → Within c d y → T (okAdd f a b c d l h) → Within l h (add f x y)
 add-in {a} {b} {c} {d} {x} {y} f l h v w t =
-    let fs = four-out (finite a) (finite b) (finite c) (finite d) (and-l (four (finite a) (finite b) (finite c) (finite d)) (le l (add f a c) && le (add f b d) h) t) in
+    let fs = four-out (finite a) (finite b) (finite c) (finite d)
+    (and-l (four (finite a) (finite b) (finite c) (finite d)) (le l (add f a c) && le (add f b d) h) t) in
     let es = and-r (four (finite a) (finite b) (finite c) (finite d)) (le l (add f a c) && le (add f b d) h) t in
     let X = within-finite a b x (fs .0) (fs .1) v in
     let Y = within-finite c d y (fs .2) (fs .3) w in
@@ -63,7 +63,8 @@ add-in {a} {b} {c} {d} {x} {y} f l h v w t =
 
 pub sub-in : {a b c d x y : Float} (f : Format) (l h : Float) → Within a b x → Within c d y → T (okSub f a b c d l h) → Within l h (sub f x y)
 sub-in {a} {b} {c} {d} {x} {y} f l h v w t =
-    let fs = four-out (finite a) (finite b) (finite c) (finite d) (and-l (four (finite a) (finite b) (finite c) (finite d)) (le l (sub f a d) && le (sub f b c) h) t) in
+    let fs = four-out (finite a) (finite b) (finite c) (finite d)
+    (and-l (four (finite a) (finite b) (finite c) (finite d)) (le l (sub f a d) && le (sub f b c) h) t) in
     let es = and-r (four (finite a) (finite b) (finite c) (finite d)) (le l (sub f a d) && le (sub f b c) h) t in
     let X = within-finite a b x (fs .0) (fs .1) v in
     let Y = within-finite c d y (fs .2) (fs .3) w in
@@ -85,7 +86,8 @@ both l h z t = record { from = and-l (le l z) (le z h) t; to = and-r (le l z) (l
 hull : (l h p q r : Float) → Within l h p → Within l h q → T (le p r) → T (le r q) → Within l h r
 hull l h p q r v w a b = record { from = le-trans l p r (v .from) a; to = le-trans r q h b (w .to) }
 
-mul-vary : (f : Format) (a b x y l h : Float) → T (finite a) → T (finite b) → T (finite x) → T (finite y) → Within a b x → Within l h (mul f a y) → Within l h (mul f b y) → Within l h (mul f x y)
+mul-vary : (f : Format) (a b x y l h : Float) → T (finite a) → T (finite b) → T (finite x) → T (finite y) → Within a b x → Within l h (mul f a y)
+    → Within l h (mul f b y) → Within l h (mul f x y)
 mul-vary f a b x y l h A B X Y w u v = elim (sign y Y) [
   | inl s ↦ hull l h (mul f a y) (mul f b y) (mul f x y) u v (mul-mono f a x y A X Y (w .from) s) (mul-mono f x b y X B Y (w .to) s)
   | inr s ↦ hull l h (mul f b y) (mul f a y) (mul f x y) v u (mul-anti f x b y X B Y (w .to) s) (mul-anti f a x y A X Y (w .from) s)
@@ -104,7 +106,8 @@ mul-in {a} {b} {c} {d} {x} {y} f l h v w t =
     mul-vary f a b x y l h (fs .0) (fs .1) X Y v
     (subst (λ (z : Float). Within l h z) (mul-swap f y a Y (fs .0)) at-a) (subst (λ (z : Float). Within l h z) (mul-swap f y b Y (fs .1)) at-b)
 
-div-vary : (f : Format) (x c d y l h : Float) → T (finite x) → T (positive c) → T (positive d) → T (positive y) → Within c d y → Within l h (div f x c) → Within l h (div f x d) → Within l h (div f x y)
+div-vary : (f : Format) (x c d y l h : Float) → T (finite x) → T (positive c) → T (positive d) → T (positive y) → Within c d y
+    → Within l h (div f x c) → Within l h (div f x d) → Within l h (div f x y)
 div-vary f x c d y l h X C D Y w u v = elim (sign x X) [
   | inl s ↦ hull l h (div f x d) (div f x c) (div f x y) v u (div-anti f x y d X Y D (w .to) s) (div-anti f x c y X C Y (w .from) s)
   | inr s ↦ hull l h (div f x c) (div f x d) (div f x y) u v (div-mono-below f x c y X C Y (w .from) s) (div-mono-below f x y d X Y D (w .to) s)
@@ -123,26 +126,6 @@ div-in {a} {b} {c} {d} {x} {y} f l h v w t =
     (div-vary f b c d y l h (fs .1) (fs .2) (fs .3) Y w (both l h (div f b c) (cs .2)) (both l h (div f b d) (cs .3)))
     (div-mono f a x y (fs .0) X Y (v .from)) (div-mono f x b y X (fs .1) Y (v .to))
 
--- by a range below zero: both signs turned
-unlike-not : (s t : Bool) → unlike (not s) (not t) ≡ unlike s t
-unlike-not false false = refl
-unlike-not false true = refl
-unlike-not true false = refl
-unlike-not true true = refl
-
-div-turned : (f : Format) (x y : Float) → T (finite x) → T (finite y) → div f (neg x) (neg y) ≡ div f x y
-unfolding div neg
-div-turned f nan y p q = absurd p
-div-turned f (inf s) y p q = absurd p
-div-turned f (fin s m e) nan p q = absurd q
-div-turned f (fin s m e) (inf t) p q = absurd q
-div-turned f (fin s m e) (fin t n d) p q = ap (λ (u : Bool). cond (eqb n 0) (cond (eqb m 0) nan (inf u)) (round f u (m * up e * down d) (n * up d * down e))) (unlike-not s t)
-
-pub div-in-below : {a b c d x y : Float} (f : Format) (l h : Float) → T (finite a) → T (finite b) → T (finite c) → T (finite d) → Within a b x → Within c d y
-    → T (okDiv f (neg b) (neg a) (neg d) (neg c) l h) → Within l h (div f x y)
-div-in-below {a} {b} {c} {d} {x} {y} f l h A B C D v w t =
-    subst (λ (z : Float). Within l h z) (div-turned f x y (within-finite a b x A B v) (within-finite c d y C D w)) (div-in f l h (neg-in v) (neg-in w) t)
-
 -- ---- the larger of two: one of them, and above both
 pub larger-one : (P : Float → Type 0) (x y : Float) → P x → P y → P (larger x y)
 larger-one P x y p q = go (lt x y)
@@ -157,12 +140,6 @@ larger-above x y p q = go (lt x y) (lt→le x y) (not-lt→le x y p q)
     go : (b : Bool) → (T b → T (le x y)) → (T (not b) → T (le y x)) → T (le x (cond b y x)) × T (le y (cond b y x))
     go true f g = (f tt, le-refl y q)
     go false f g = (le-refl x p, g tt)
-
-pub larger-in : {a c h x y : Float} → Within a h x → Within c h y → Within a h (larger x y) × Within c h (larger x y)
-larger-in {a} {c} {h} {x} {y} v w =
-    let o = larger-above x y (not-nan a x (v .from) .1) (not-nan c y (w .from) .1) in
-    let t = larger-one (λ (z : Float). T (le z h)) x y (v .to) (w .to) in
-    (record { from = le-trans a x (larger x y) (v .from) (o .0); to = t }, record { from = le-trans c y (larger x y) (w .from) (o .1); to = t })
 
 -- ---- held between two ends: any value that is no NaN, an infinite one too
 pub clamp-in : (l h x : Float) → T (le l h) → T (not (isNan x)) → Within l h (clamp l h x)

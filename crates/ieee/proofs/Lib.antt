@@ -1,6 +1,9 @@
--- What f32 and f64 arithmetic is allowed to be believed: laws over the toolchain's account of IEEE 754 (lib.Ieee), for either format f and for any bound. prec f is 24 for f32 and 53 for f64.
--- The words are in specs/: `Whole x z` (the float x is the integer z), `run` (a sum from the left), `Within l h x`, `larger`, `clamp`, `Upto n k x` (|x| ≤ n * 2 ^ k), `Least b x` (2 ^ -b ≤ |x|),
--- `Grid j x` (a multiple of 2 ^ -j), `Score f n k x` (a value of f, bounded, not -0.0), `Units j x z` (z * 2 ^ -j, exactly), `Near j d x z` (but for d units). `Samples` has the laws at work. Each law by its module, with its statement and what it is for:
+-- What f32 and f64 arithmetic is allowed to be believed: laws over the toolchain's account of IEEE 754 (lib.Ieee), for
+-- either format f and for any bound. prec f is 24 for f32 and 53 for f64. The words are in specs/: `Whole x z` (the
+-- float x is the integer z), `run` (a sum from the left), `Within l h x`, `larger`, `clamp`, `Upto n k x`
+-- (|x| ≤ n * 2 ^ k), `Least b x` (2 ^ -b ≤ |x|), `Grid j x` (a multiple of 2 ^ -j), `Score f n k x` (a value of f,
+-- bounded, not -0.0), `Units j x z` (z * 2 ^ -j, exactly), `Near j d x z` (but for d units). `Samples` shows that bounds are needed.
+-- Each law by its module, with its statement and what it is for:
 --
 -- 1. Whole numbers are exact
 -- Sums.add-whole : (f : Format) {x y : Float} {a b : ℤ} → Whole x a → Whole y b → natAbs (a +ℤ b) ≤ 2 ^ prec f → Whole (add f x y) (a +ℤ b)
@@ -13,26 +16,38 @@
 --     every decision `a > b` over whole floats is that of the integers
 -- Sums.le-whole : {x y : Float} {a b : ℤ} → Whole x a → Whole y b → le x y ≡ leZ a b
 --     `<=` over whole floats is that of the integers
--- Sums.whole-zero : Whole plusZero (pos 0)
---     where a sum of whole numbers starts
 -- Sums.whole-finite : {x : Float} {a : ℤ} → Whole x a → T (finite x)
 --     a whole float is finite
--- Sums.whole-once : {x : Float} {a b : ℤ} → Whole x a → Whole x b → a ≡ b
---     a float is one whole number at most
 -- Values.equal : (f : Format) (x y : Float) → T (fits f x) → T (fits f y) → T (not (isZero true x)) → T (not (isZero true y)) → T (eq x y) → x ≡ y
 --     floats of a format that Rust's `==` holds equal are one value, the two zeros apart; so ties do not matter
--- Values.equal-whole : (f : Format) {x y : Float} {z : ℤ} → T (fits f x) → T (fits f y) → T (not (isZero true x)) → T (not (isZero true y)) → Whole x z → Whole y z → x ≡ y
+-- Values.equal-whole : (f : Format) {x y : Float} {z : ℤ} → T (fits f x) → T (fits f y) → T (not (isZero true x)) → T (not (isZero true y)) → Whole x
+-- z → Whole y z → x ≡ y
 --     two floats of the same whole number, neither -0.0, are one value
 -- Values.whole-is : (f : Format) {x : Float} {z : ℤ} → T (fits f x) → T (not (isZero true x)) → Whole x z → natAbs z ≤ 2 ^ prec f → x ≡ ofInt f z
 --     so a whole float that is not -0.0 is the integer's own float
--- Values.add-ofInt : (f : Format) {y : Float} (a : ℤ) {b : ℤ} → natAbs a ≤ 2 ^ prec f → Whole y b → natAbs (a +ℤ b) ≤ 2 ^ prec f → add f (ofInt f a) y ≡ ofInt f (a +ℤ b)
+-- Values.add-ofInt : (f : Format) {y : Float} (a : ℤ) {b : ℤ} → natAbs a ≤ 2 ^ prec f → Whole y b → natAbs (a +ℤ b) ≤ 2 ^ prec f → add f (ofInt f a)
+-- y ≡ ofInt f (a +ℤ b)
 --     a sum that starts from an integer's float is an integer's float: an invariant carries one equation
--- Values.sub-ofInt : (f : Format) {y : Float} (a : ℤ) {b : ℤ} → natAbs a ≤ 2 ^ prec f → Whole y b → natAbs (a -ℤ b) ≤ 2 ^ prec f → sub f (ofInt f a) y ≡ ofInt f (a -ℤ b)
+-- Values.sub-ofInt : (f : Format) {y : Float} (a : ℤ) {b : ℤ} → natAbs a ≤ 2 ^ prec f → Whole y b → natAbs (a -ℤ b) ≤ 2 ^ prec f → sub f (ofInt f a)
+-- y ≡ ofInt f (a -ℤ b)
 --     a difference that starts from one is one too
--- Folds.run-whole : (f : Format) (b c : ℕ) (a : ℤ) (x : ℕ → Float) (z : ℕ → ℤ) (n : ℕ) → natAbs a ≤ c → ((i : ℕ) → i < n → Whole (x i) (z i) × (natAbs (z i) ≤ b)) → c + b * n ≤ 2 ^ prec f → (run (add f) (ofInt f a) x n ≡ ofInt f (run _+ℤ_ a z n)) × (natAbs (run _+ℤ_ a z n) ≤ c + b * n)
+-- Folds.run-next : {A : Type 0} (op : A → A → A) (a : A) (x : ℕ → A) (n : ℕ) → run op a x (n + 1) ≡ op (run op a x n) (x n)
+--     a run of any operation with one step more: a loop's turn
+-- Folds.run-same : {A : Type 0} (op : A → A → A) (a : A) (x y : ℕ → A) (n : ℕ) → ((i : ℕ) → i < n → x i ≡ y i) → run op a x n ≡ run op a y n
+--     equal terms have equal runs
+-- Folds.run-keeps : {A : Type 0} (P : A → Type 0) (op : A → A → A) (a : A) (x : ℕ → A) (n : ℕ) → P a → ((i : ℕ) (p : A) → i < n → P p → P (op p (x
+-- i))) → P (run op a x n)
+--     what the start has, and each step keeps, the run has: bounds of exp and ln_1p
+-- Folds.run-whole : (f : Format) (b c : ℕ) (a : ℤ) (x : ℕ → Float) (z : ℕ → ℤ) (n : ℕ) → natAbs a ≤ c → ((i : ℕ) → i < n → Whole (x i) (z i) ×
+-- (natAbs (z i) ≤ b)) → c + b * n ≤ 2 ^ prec f → (run (add f) (ofInt f a) x n ≡ ofInt f (run _+ℤ_ a z n)) × (natAbs (run _+ℤ_ a z n) ≤ c + b * n)
 --     an n-step sum from any integer's float, exact, with its size
--- Folds.run-zero : (f : Format) (b : ℕ) (x : ℕ → Float) (z : ℕ → ℤ) (n : ℕ) → ((i : ℕ) → i < n → Whole (x i) (z i) × (natAbs (z i) ≤ b)) → b * n ≤ 2 ^ prec f → (run (add f) plusZero x n ≡ ofInt f (run _+ℤ_ (pos 0) z n)) × (natAbs (run _+ℤ_ (pos 0) z n) ≤ b * n)
+-- Folds.run-zero : (f : Format) (b : ℕ) (x : ℕ → Float) (z : ℕ → ℤ) (n : ℕ) → ((i : ℕ) → i < n → Whole (x i) (z i) × (natAbs (z i) ≤ b)) → b * n ≤ 2
+-- ^ prec f → (run (add f) plusZero x n ≡ ofInt f (run _+ℤ_ (pos 0) z n)) × (natAbs (run _+ℤ_ (pos 0) z n) ≤ b * n)
 --     an n-step sum from 0.0: five terms within ±b are within ±5 b; n metrics
+-- Folds.run-next : {A : Type 0} (op : A → A → A) (a : A) (x : ℕ → A) (n : ℕ) → run op a x (n + 1) ≡ op (run op a x n) (x n)
+--     a sum of any kind, one step further: a loop's turn (`run-further` with what the loop holds so far)
+-- Folds.run-same : {A : Type 0} (op : A → A → A) (a : A) (x y : ℕ → A) (n : ℕ) → ((i : ℕ) → i < n → x i ≡ y i) → run op a x n ≡ run op a y n
+--     a sum sees its first n values only
 -- Integers.abs-add : (x y : ℤ) → natAbs (x +ℤ y) ≤ natAbs x + natAbs y
 --     how large an integer sum is
 -- Integers.abs-sub : (x y : ℤ) → natAbs (x -ℤ y) ≤ natAbs x + natAbs y
@@ -63,23 +78,29 @@
 --     a divisor that the test `<= 0.0` let through is positive
 -- Order.positive-num : (x : Float) → T (positive x) → 0 < num x
 --     what is positive is not 0 in size
--- Rounds.add-mono : (f : Format) (x x' y y' : Float) → T (finite x) → T (finite x') → T (finite y) → T (finite y') → T (le x x') → T (le y y') → T (le (add f x y) (add f x' y'))
+-- Rounds.add-mono : (f : Format) (x x' y y' : Float) → T (finite x) → T (finite x') → T (finite y) → T (finite y') → T (le x x') → T (le y y') → T
+-- (le (add f x y) (add f x' y'))
 --     a rounded sum grows with each term
--- Rounds.sub-mono : (f : Format) (x x' y y' : Float) → T (finite x) → T (finite x') → T (finite y) → T (finite y') → T (le x x') → T (le y' y) → T (le (sub f x y) (sub f x' y'))
+-- Rounds.sub-mono : (f : Format) (x x' y y' : Float) → T (finite x) → T (finite x') → T (finite y) → T (finite y') → T (le x x') → T (le y' y) → T
+-- (le (sub f x y) (sub f x' y'))
 --     a difference grows with the first and falls with the second
 -- Rounds.sub-nonpos : (f : Format) (x y : Float) → T (finite x) → T (finite y) → T (le x y) → T (le (sub f x y) plusZero)
 --     a value less a greater one is at most 0.0: the argument of exp
--- Rounds.mul-mono : (f : Format) (x x' y : Float) → T (finite x) → T (finite x') → T (finite y) → T (le x x') → T (le plusZero y) → T (le (mul f x y) (mul f x' y))
+-- Rounds.mul-mono : (f : Format) (x x' y : Float) → T (finite x) → T (finite x') → T (finite y) → T (le x x') → T (le plusZero y) → T (le (mul f x y)
+-- (mul f x' y))
 --     a product grows with a factor where the other is not negative
--- Rounds.mul-anti : (f : Format) (x x' y : Float) → T (finite x) → T (finite x') → T (finite y) → T (le x x') → T (le y plusZero) → T (le (mul f x' y) (mul f x y))
+-- Rounds.mul-anti : (f : Format) (x x' y : Float) → T (finite x) → T (finite x') → T (finite y) → T (le x x') → T (le y plusZero) → T (le (mul f x'
+-- y) (mul f x y))
 --     a product falls with a factor where the other is not positive
 -- Rounds.mul-swap : (f : Format) (x y : Float) → T (finite x) → T (finite y) → mul f x y ≡ mul f y x
 --     a product does not mind the order
 -- Rounds.div-mono : (f : Format) (x x' y : Float) → T (finite x) → T (finite x') → T (positive y) → T (le x x') → T (le (div f x y) (div f x' y))
 --     a quotient by a positive float grows with the dividend
--- Rounds.div-anti : (f : Format) (x y y' : Float) → T (finite x) → T (positive y) → T (positive y') → T (le y y') → T (le plusZero x) → T (le (div f x y') (div f x y))
+-- Rounds.div-anti : (f : Format) (x y y' : Float) → T (finite x) → T (positive y) → T (positive y') → T (le y y') → T (le plusZero x) → T (le (div f
+-- x y') (div f x y))
 --     a quotient falls with the divisor where the dividend is not negative
--- Rounds.div-mono-below : (f : Format) (x y y' : Float) → T (finite x) → T (positive y) → T (positive y') → T (le y y') → T (le x plusZero) → T (le (div f x y) (div f x y'))
+-- Rounds.div-mono-below : (f : Format) (x y y' : Float) → T (finite x) → T (positive y) → T (positive y') → T (le y y') → T (le x plusZero) → T (le
+-- (div f x y) (div f x y'))
 --     a quotient grows with the divisor where the dividend is not positive
 -- Rounds.add-above : (f : Format) (x y : Float) → T (finite x) → T (finite y) → T (le plusZero x) → T (le plusZero y) → T (le plusZero (add f x y))
 --     a sum of values that are not negative is not: a sum of squares
@@ -105,14 +126,10 @@
 --     a product, by the four corners, so for all signs
 -- Intervals.div-in : {a b c d x y : Float} (f : Format) (l h : Float) → Within a b x → Within c d y → T (okDiv f a b c d l h) → Within l h (div f x y)
 --     a quotient by a divisor above zero
--- Intervals.div-in-below : {a b c d x y : Float} (f : Format) (l h : Float) → T (finite a) → T (finite b) → T (finite c) → T (finite d) → Within a b x → Within c d y → T (okDiv f (neg b) (neg a) (neg d) (neg c) l h) → Within l h (div f x y)
---     a quotient by a divisor below zero
 -- Intervals.larger-one : (P : Float → Type 0) (x y : Float) → P x → P y → P (larger x y)
 --     the larger of two is one of them
 -- Intervals.larger-above : (x y : Float) → T (not (isNan x)) → T (not (isNan y)) → T (le x (larger x y)) × T (le y (larger x y))
 --     the larger of two is above both: a divisor kept from 0
--- Intervals.larger-in : {a c h x y : Float} → Within a h x → Within c h y → Within a h (larger x y) × Within c h (larger x y)
---     the maximum of two bounded values is bounded by both lower ends
 -- Intervals.clamp-in : (l h x : Float) → T (le l h) → T (not (isNan x)) → Within l h (clamp l h x)
 --     clamp: any value that is no NaN, an infinite one too, is held between the ends
 -- Intervals.clamp-low : (l h x : Float) → lt x l ≡ true → clamp l h x ≡ l
@@ -121,8 +138,6 @@
 --     where the upper end is returned
 -- Intervals.clamp-mid : (l h x : Float) → lt x l ≡ false → lt h x ≡ false → clamp l h x ≡ x
 --     where the value itself is
--- Grids.sub-least : (f : Format) {j : ℕ} {x y : Float} → Grid j x → Grid j y → j ≤ low f → T (finite (sub f x y)) → T (ne x y) → Least j (sub f x y)
---     the difference of two multiples of 2 ^ -j that differ is at least 2 ^ -j in size: it may be divided by
 --
 -- 3. Magnitudes (|x| ≤ n * 2 ^ k, 2 ^ -b ≤ |x|, and multiples of 2 ^ -j, for a divisor that a sum makes)
 -- Sizes.upto-zero : {k : ℕ} → Upto 0 k plusZero
@@ -141,13 +156,16 @@
 --     a sum of bounded values is bounded, so no NaN and no infinity: scores, sums of the fit
 -- Sizes.sub-upto : (f : Format) {a b k : ℕ} {x y : Float} → Upto a k x → Upto b k y → a + b < 2 ^ prec f → k + prec f ≤ emax f → Upto (a + b) k (sub f x y)
 --     the same of a difference: a value less its mean
--- Sizes.mul-upto : (f : Format) {a b j k : ℕ} {x y : Float} → Upto a j x → Upto b k y → a * b < 2 ^ prec f → j + k + prec f ≤ emax f → Upto (a * b) (j + k) (mul f x y)
+-- Sizes.mul-upto : (f : Format) {a b j k : ℕ} {x y : Float} → Upto a j x → Upto b k y → a * b < 2 ^ prec f → j + k + prec f ≤ emax f → Upto (a * b)
+-- (j + k) (mul f x y)
 --     and of a product: the terms of a sum of squares
 -- Sizes.div-upto : (f : Format) {a b j : ℕ} {x y : Float} → Upto a j x → Least b y → a < 2 ^ prec f → j + b + prec f ≤ emax f → Upto a (j + b) (div f x y)
 --     a quotient by what is at least 2 ^ -b
--- Sizes.run-upto : (f : Format) (k : ℕ) (x : ℕ → Float) (n : ℕ) → ((i : ℕ) → i < n → Upto 1 k (x i)) → n < 2 ^ prec f → k + prec f ≤ emax f → Upto n k (run (add f) plusZero x n)
+-- Sizes.run-upto : (f : Format) (k : ℕ) (x : ℕ → Float) (n : ℕ) → ((i : ℕ) → i < n → Upto 1 k (x i)) → n < 2 ^ prec f → k + prec f ≤ emax f → Upto n
+-- k (run (add f) plusZero x n)
 --     an n-step sum from 0.0 is bounded by n times the term
--- Sizes.run-above : (f : Format) (k : ℕ) (x : ℕ → Float) (n : ℕ) → ((i : ℕ) → i < n → Upto 1 k (x i)) → ((i : ℕ) → i < n → T (le plusZero (x i))) → n < 2 ^ prec f → k + prec f ≤ emax f → T (le plusZero (run (add f) plusZero x n))
+-- Sizes.run-above : (f : Format) (k : ℕ) (x : ℕ → Float) (n : ℕ) → ((i : ℕ) → i < n → Upto 1 k (x i)) → ((i : ℕ) → i < n → T (le plusZero (x i))) → n
+-- < 2 ^ prec f → k + prec f ≤ emax f → T (le plusZero (run (add f) plusZero x n))
 --     an n-step sum of values that are not negative is not: a sum of squares
 -- Sizes.least-whole : {x : Float} {z : ℤ} → Whole x z → 0 < natAbs z → Least 0 x
 --     a whole number that is not 0 is at least 1
@@ -155,7 +173,8 @@
 --     what is at least a positive bound: `larger` with a literal
 -- Sizes.least-pos : {b : ℕ} {y : Float} → Least b y → 0 < num y
 --     what is at least 2 ^ -b is not 0
--- Sizes.div-least : (f : Format) {a k : ℕ} {x y : Float} → Least a x → Upto 1 k y → 0 < num y → a + k ≤ low f → T (finite (div f x y)) → Least (a + k) (div f x y)
+-- Sizes.div-least : (f : Format) {a k : ℕ} {x y : Float} → Least a x → Upto 1 k y → 0 < num y → a + k ≤ low f → T (finite (div f x y)) → Least (a +
+-- k) (div f x y)
 --     the quotient of what is not small by what is not large is not small: a mean that is not 0
 -- Grids.grid-whole : {x : Float} {z : ℤ} → Whole x z → Grid 0 x
 --     whole numbers are multiples of 1
@@ -173,9 +192,11 @@
 --     a product of multiples is one of the product: its square
 -- Grids.neg-grid : {j : ℕ} {x : Float} → Grid j x → Grid j (neg x)
 --     the other sign is as fine
--- Grids.div-grid : (f : Format) {i k : ℕ} {x y : Float} → Grid i x → Upto 1 k y → 0 < num y → i + k ≤ low f → T (finite (div f x y)) → Grid (prec f + (i + k)) (div f x y)
+-- Grids.div-grid : (f : Format) {i k : ℕ} {x y : Float} → Grid i x → Upto 1 k y → 0 < num y → i + k ≤ low f → T (finite (div f x y)) → Grid (prec f +
+-- (i + k)) (div f x y)
 --     a quotient is a multiple of something, if a fine one: a mean
--- Grids.run-grid : (f : Format) (j k : ℕ) (x : ℕ → Float) (n : ℕ) → ((i : ℕ) → i < n → Grid j (x i)) → ((i : ℕ) → i < n → Upto 1 k (x i)) → n < 2 ^ prec f → k + prec f ≤ emax f → j ≤ low f → Grid j (run (add f) plusZero x n)
+-- Grids.run-grid : (f : Format) (j k : ℕ) (x : ℕ → Float) (n : ℕ) → ((i : ℕ) → i < n → Grid j (x i)) → ((i : ℕ) → i < n → Upto 1 k (x i)) → n < 2 ^
+-- prec f → k + prec f ≤ emax f → j ≤ low f → Grid j (run (add f) plusZero x n)
 --     an n-step sum of multiples from 0.0: the sum of squares
 -- Grids.least-grid : {j : ℕ} {x : Float} → Grid j x → 0 < num x → Least j x
 --     so what is not 0 is at least 2 ^ -j: the sum of squares may be divided by
@@ -183,17 +204,18 @@
 --     a sum is -0.0 only where both terms are; `grid-fits` gives its premises for finite values of the format
 -- Zeros.sub-minus-zero : (f : Format) (x y : Float) → Grid (low f) x → Grid (low f) y → T (isZero true (sub f x y)) → T (isZero true x) × T (isZero false y)
 --     a difference is -0.0 only as -0.0 - 0.0
--- Zeros.sub-self : (f : Format) (x : Float) → T (finite x) → sub f x x ≡ plusZero
---     x - x is 0.0
 -- Zeros.score-zero : (f : Format) {k : ℕ} → Score f 0 k plusZero
 --     a score starts at 0.0
 -- Zeros.score-wider : (f : Format) {a j : ℕ} {x : Float} (b k : ℕ) → Score f a j x → a * 2 ^ j ≤ b * 2 ^ k → Score f b k x
 --     its bound may be widened
--- Zeros.score-add : (f : Format) {a b n k : ℕ} {x y : Float} → Score f a k x → T (fits f y) → Upto b k y → a + b ≤ n → n < 2 ^ prec f → k + prec f ≤ emax f → Score f n k (add f x y)
+-- Zeros.score-add : (f : Format) {a b n k : ℕ} {x y : Float} → Score f a k x → T (fits f y) → Upto b k y → a + b ≤ n → n < 2 ^ prec f → k + prec f ≤
+-- emax f → Score f n k (add f x y)
 --     so a score is finite and never -0.0, whatever terms it adds
--- Zeros.score-sub : (f : Format) {a b n k : ℕ} {x y : Float} → Score f a k x → T (fits f y) → Upto b k y → a + b ≤ n → n < 2 ^ prec f → k + prec f ≤ emax f → Score f n k (sub f x y)
+-- Zeros.score-sub : (f : Format) {a b n k : ℕ} {x y : Float} → Score f a k x → T (fits f y) → Upto b k y → a + b ≤ n → n < 2 ^ prec f → k + prec f ≤
+-- emax f → Score f n k (sub f x y)
 --     nor is a score less another: lowering by the best, a gain
--- Zeros.score-run : (f : Format) (k : ℕ) (x : ℕ → Float) (n : ℕ) → ((i : ℕ) → i < n → T (fits f (x i)) × Upto 1 k (x i)) → n < 2 ^ prec f → k + prec f ≤ emax f → Score f n k (run (add f) plusZero x n)
+-- Zeros.score-run : (f : Format) (k : ℕ) (x : ℕ → Float) (n : ℕ) → ((i : ℕ) → i < n → T (fits f (x i)) × Upto 1 k (x i)) → n < 2 ^ prec f → k + prec
+-- f ≤ emax f → Score f n k (run (add f) plusZero x n)
 --     an n-step sum from 0.0 is a score: a metric, a walk
 --
 -- 4. Casts (`n as f64` is `ofInt binary64 (pos n)`, of a signed z `ofInt binary64 z`)
@@ -201,19 +223,21 @@
 --     a cast within 2 ^ prec loses nothing
 -- Values.ofInt-plain : (f : Format) (z : ℤ) → T (not (isZero true (ofInt f z)))
 --     a cast is never -0.0
--- Values.ofInt-lt : (f : Format) (a b : ℤ) → natAbs a ≤ 2 ^ prec f → natAbs b ≤ 2 ^ prec f → lt (ofInt f a) (ofInt f b) ≡ ltZ a b
---     the order of casts is that of the integers
 -- Values.ofInt-le : (f : Format) (a b : ℤ) → natAbs a ≤ 2 ^ prec f → natAbs b ≤ 2 ^ prec f → le (ofInt f a) (ofInt f b) ≡ leZ a b
---     the same of `<=`
+--     the order of casts is that of the integers
 -- Values.ofInt-allowed : (f : Format) (z : ℤ) → natAbs z ≤ 2 ^ prec f → T (inFloat f z)
 --     what the machine asks of a cast
 --
 -- 5. Exact values (in units of 2 ^ -j, for f32 of 2 ^ -149: every finite value is a whole number of them)
--- Units.add-near : (f : Format) (h : ℕ) {x y : Float} {a b : ℤ} → Units (low f) x a → Units (low f) y b → natAbs (a +ℤ b) ≤ 2 ^ (prec f + suc h) → T (finite (add f x y)) → Near (low f) (2 ^ h) (add f x y) (a +ℤ b)
+-- Units.add-near : (f : Format) (h : ℕ) {x y : Float} {a b : ℤ} → Units (low f) x a → Units (low f) y b → natAbs (a +ℤ b) ≤ 2 ^ (prec f + suc h) → T
+-- (finite (add f x y)) → Near (low f) (2 ^ h) (add f x y) (a +ℤ b)
 --     THE ROUNDING LAW: a sum within ±2 ^ k is off by at most 2 ^ (k - 25) in f32, half a unit in the last place there; h = k + 124
--- Units.near-add : (f : Format) (h : ℕ) {m n k c d : ℕ} {x y : Float} {a b : ℤ} → Upto m k x → Upto n k y → Near (low f) c x a → Near (low f) d y b → m + n < 2 ^ prec f → k + prec f ≤ emax f → (m + n) * 2 ^ (k + low f) ≤ 2 ^ (prec f + suc h) → Near (low f) (c + d + 2 ^ h) (add f x y) (a +ℤ b)
+-- Units.near-add : (f : Format) (h : ℕ) {m n k c d : ℕ} {x y : Float} {a b : ℤ} → Upto m k x → Upto n k y → Near (low f) c x a → Near (low f) d y b →
+-- m + n < 2 ^ prec f → k + prec f ≤ emax f → (m + n) * 2 ^ (k + low f) ≤ 2 ^ (prec f + suc h) → Near (low f) (c + d + 2 ^ h) (add f x y) (a +ℤ b)
 --     a sum of values that are off already: what each is off, and what the sum loses
--- Units.run-near : (f : Format) (k h d : ℕ) (x : ℕ → Float) (z : ℕ → ℤ) (n : ℕ) → ((i : ℕ) → i < n → Upto 1 k (x i)) → ((i : ℕ) → i < n → Near (low f) d (x i) (z i)) → n < 2 ^ prec f → k + prec f ≤ emax f → n * 2 ^ (k + low f) ≤ 2 ^ (prec f + suc h) → Near (low f) (n * (d + 2 ^ h)) (run (add f) plusZero x n) (run _+ℤ_ (pos 0) z n)
+-- Units.run-near : (f : Format) (k h d : ℕ) (x : ℕ → Float) (z : ℕ → ℤ) (n : ℕ) → ((i : ℕ) → i < n → Upto 1 k (x i)) → ((i : ℕ) → i < n → Near (low
+-- f) d (x i) (z i)) → n < 2 ^ prec f → k + prec f ≤ emax f → n * 2 ^ (k + low f) ≤ 2 ^ (prec f + suc h) → Near (low f) (n * (d + 2 ^ h)) (run (add f)
+-- plusZero x n) (run _+ℤ_ (pos 0) z n)
 --     an n-step sum from 0.0 loses as much at each step: a metric, a walk
 -- Units.near-units : {j : ℕ} {x : Float} {z : ℤ} → Units j x z → Near j 0 x z
 --     a value is off by nothing from itself
@@ -221,8 +245,6 @@
 --     the room may be widened
 -- Units.lt-units : {j : ℕ} {x y : Float} {a b : ℤ} → Units j x a → Units j y b → lt x y ≡ ltZ a b
 --     floats are in the order of their units: from f32 scores to exact ones
--- Units.units-once : {j : ℕ} {x : Float} {a b : ℤ} → Units j x a → Units j x b → a ≡ b
---     a float is one number of units at most
 -- Units.units-grid : {j : ℕ} {x : Float} → Grid j x → Units j x (inUnits j x)
 --     a multiple of 2 ^ -j is a number of units, `inUnits`; `grid-fits` gives it for every finite value of the format
 -- Units.units-whole : (j : ℕ) {x : Float} {z : ℤ} → Whole x z → Units j x (pos (2 ^ j) *ℤ z)

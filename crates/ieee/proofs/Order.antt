@@ -1,5 +1,5 @@
--- The order of the finite floats of either sign, as one of fractions: x is (plus x - less x) / den x, and x ≤ y is a comparison of naturals. With it `le` is transitive,
--- total away from NaN, and turned round by `neg`. Assumes nothing.
+-- The order of the finite floats of either sign, as one of fractions: x is (plus x - less x) / den x, and x ≤ y is a
+-- comparison of naturals. With it `le` is transitive, total away from NaN, and turned round by `neg`. Assumes nothing.
 use mathlib.Core.Path.{_≡_, refl, sym}
 use mathlib.Core.Logic.{_⊎_, inl, inr}
 use Prim.Native.Nat.{ℕ, zero, suc, _+_, _*_, _≤_, _<_}
@@ -115,7 +115,15 @@ le→cross (inf s) y p q h = absurd p
 le→cross (fin s m e) nan p q h = absurd q
 le→cross (fin s m e) (inf t) p q h = absurd q
 le→cross (fin s m e) (fin t n d) p q h =
-    omega (arith, order→ s t (m * up e * down d) (n * up d * down e) h, pp-mul s (m * up e) (down d), nn-mul s (m * up e) (down d), pp-mul t (n * up d) (down e), nn-mul t (n * up d) (down e))
+    omega (
+      arith,
+      order→ s t (m * up e * down d) (n * up d * down e) h,
+      pp-mul s (m * up e) (down d),
+      nn-mul s (m * up e) (down d),
+      pp-mul t
+          (n * up d) (down e),
+      nn-mul t (n * up d) (down e),
+    )
 
 pub cross→le : (x y : Float) → T (finite x) → T (finite y) → Cross x y → T (le x y)
 unfolding le
@@ -128,7 +136,8 @@ cross→le (fin s m e) (fin t n d) p q h =
     (omega (arith, h, pp-mul s (m * up e) (down d), nn-mul s (m * up e) (down d), pp-mul t (n * up d) (down e), nn-mul t (n * up d) (down e)))
 
 -- ---- `le` on all floats
-cross-trans : (px nx dx py ny dy pz nz dz : ℕ) → 0 < dy → px * dy + ny * dx ≤ py * dx + nx * dy → py * dz + nz * dy ≤ pz * dy + ny * dz → px * dz + nz * dx ≤ pz * dx + nx * dz
+cross-trans : (px nx dx py ny dy pz nz dz : ℕ) → 0 < dy → px * dy + ny * dx ≤ py * dx + nx * dy → py * dz + nz * dy ≤ pz * dy + ny * dz
+    → px * dz + nz * dx ≤ pz * dx + nx * dz
 cross-trans px nx dx py ny dy pz nz dz h k l = le-of-mul-le-mul-right (omega (arith, mul-le-mul-right dz k, mul-le-mul-right dx l)) h
 
 not-nan-l : (x : Float) → T (le x nan) → ⊥
@@ -161,7 +170,8 @@ le-trans (fin s m e) (fin t n d) (fin u l g) h k =
     let x = fin s m e in
     let y = fin t n d in
     let z = fin u l g in
-    cross→le x z tt tt (cross-trans (plus x) (less x) (den x) (plus y) (less y) (den y) (plus z) (less z) (den z) (den-pos y) (le→cross x y tt tt h) (le→cross y z tt tt k))
+    cross→le x z tt tt (cross-trans (plus x) (less x) (den x) (plus y) (less y) (den y) (plus z) (less z) (den z) (den-pos y) (le→cross x y tt tt h)
+    (le→cross y z tt tt k))
 
 -- `neg` turns the order round
 neg-fin : (s : Bool) (m : ℕ) (e : ℤ) (t : Bool) (n : ℕ) (d : ℤ) → T (le (fin s m e) (fin t n d)) → T (le (fin (not t) n d) (fin (not s) m e))

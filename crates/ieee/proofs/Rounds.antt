@@ -1,5 +1,6 @@
--- Each operation on finite floats of either sign rounds a fraction (p - n) / c, and rounding keeps the order. So a sum grows with each term,
--- a product with each factor or against it, by the other's sign, and a quotient likewise. Overflow to an infinity is included. Assumes nothing.
+-- Each operation on finite floats of either sign rounds a fraction (p - n) / c, and rounding keeps the order. So a sum
+-- grows with each term, a product with each factor or against it, by the other's sign, and a quotient likewise.
+-- Overflow to an infinity is included. Assumes nothing.
 use mathlib.Core.Path.{_≡_, refl, sym, ap, ap₂, _∙_, subst, subst₂}
 use mathlib.Core.Logic.{_⊎_, inl, inr}
 use Prim.Native.Nat.{ℕ, zero, suc, _+_, _-_, _*_, _≤_, _<_}
@@ -66,17 +67,21 @@ no-factor k c C h = elim (eq-zero-or-pos k) [
   | inr p ↦ omega (arith, mul-pos p C)
 ]
 
-rounds-mono : (f : Format) (r r' : Float) (p n c p' n' c' : ℕ) → Rounds f r p n c → Rounds f r' p' n' c' → 0 < c → 0 < c' → p * c' + n' * c ≤ p' * c + n * c' → T (le r r')
+rounds-mono : (f : Format) (r r' : Float) (p n c p' n' c' : ℕ) → Rounds f r p n c → Rounds f r' p' n' c' → 0 < c → 0 < c'
+    → p * c' + n' * c ≤ p' * c + n * c' → T (le r r')
 rounds-mono f r r' p n c p' n' c' (inl a) (inl b) C C' h =
     subst₂ (λ (x y : Float). T (le x y)) (sym (a .1)) (sym (b .1)) (round-mono f (a .0) c (b .0) c' C C' (gap p n (a .0) c p' n' (b .0) c' (a .2) (b .2) h))
 rounds-mono f r r' p n c p' n' c' (inl a) (inr b) C C' h =
     let z : a .0 * c' + b .0 * c ≤ 0 = both p n (a .0) c p' n' (b .0) c' (a .2) (b .2) h in
-    subst₂ (λ (x y : Float). T (le x y)) (ap (λ (k : ℕ). round f false k c) (sym (no-factor (a .0) c' C' (omega arith))) ∙ sym (a .1)) (ap (λ (k : ℕ). round f true k c') (sym (no-factor (b .0) c C (omega arith))) ∙ sym (b .1))
+    subst₂ (λ (x y : Float). T (le x y)) (ap (λ (k : ℕ). round f false k c) (sym (no-factor (a .0) c' C' (omega arith))) ∙ sym (a .1))
+    (ap (λ (k : ℕ). round f true k c') (sym (no-factor (b .0) c C (omega arith))) ∙ sym (b .1))
     (le-trans (round f false 0 c) plusZero (round f true 0 c') (at-zero f c C) (at-minus-zero f c' C'))
 rounds-mono f r r' p n c p' n' c' (inr a) (inl b) C C' h =
-    subst₂ (λ (x y : Float). T (le x y)) (sym (a .1)) (sym (b .1)) (le-trans (round f true (a .0) c) plusZero (round f false (b .0) c') (under f (a .0) c C) (above f (b .0) c' C'))
+    subst₂ (λ (x y : Float). T (le x y)) (sym (a .1)) (sym (b .1))
+    (le-trans (round f true (a .0) c) plusZero (round f false (b .0) c') (under f (a .0) c C) (above f (b .0) c' C'))
 rounds-mono f r r' p n c p' n' c' (inr a) (inr b) C C' h =
-    subst₂ (λ (x y : Float). T (le x y)) (sym (a .1)) (sym (b .1)) (turn f (a .0) c (b .0) c' (round-mono f (b .0) c' (a .0) c C' C (gap n' p' (b .0) c' n p (a .0) c (b .2) (a .2) (omega arith))))
+    subst₂ (λ (x y : Float). T (le x y)) (sym (a .1)) (sym (b .1))
+    (turn f (a .0) c (b .0) c' (round-mono f (b .0) c' (a .0) c C' C (gap n' p' (b .0) c' n p (a .0) c (b .2) (a .2) (omega arith))))
 
 -- ---- each operation
 sum-rounds : (f : Format) (s t : Bool) (a b c : ℕ) → Rounds f (sum f s a t b c) (pp s a + pp t b) (nn s a + nn t b) c
@@ -90,12 +95,14 @@ sum-rounds f false true a b c = go (ltb a b) (ltb→lt a b) (nltb→le a b)
     go false h k = inl (a - b, refl, omega (arith, k tt))
 sum-rounds f true false a b c = go (ltb a b) (ltb b a) (ltb→lt a b) (nltb→le a b) (nltb→le b a)
   where
-    go : (u v : Bool) → (T u → a < b) → (T (not u) → b ≤ a) → (T (not v) → a ≤ b) → Rounds f (cond u (round f false (b - a) c) (round f v (a - b) c)) (0 + b) (a + 0) c
+    go : (u v : Bool) → (T u → a < b) → (T (not u) → b ≤ a) → (T (not v) → a ≤ b)
+        → Rounds f (cond u (round f false (b - a) c) (round f v (a - b) c)) (0 + b) (a + 0) c
     go true v h k l = inl (b - a, refl, omega (arith, h tt))
     go false true h k l = inr (a - b, refl, omega (arith, k tt))
     go false false h k l = inl (a - b, refl, omega (arith, k tt, l tt))
 
-pub add-rounds : (f : Format) (x y : Float) → T (finite x) → T (finite y) → Rounds f (add f x y) (plus x * den y + plus y * den x) (less x * den y + less y * den x) (den x * den y)
+pub add-rounds : (f : Format) (x y : Float) → T (finite x) → T (finite y)
+    → Rounds f (add f x y) (plus x * den y + plus y * den x) (less x * den y + less y * den x) (den x * den y)
 unfolding add
 add-rounds f nan y p q = absurd p
 add-rounds f (inf s) y p q = absurd p
@@ -105,9 +112,11 @@ add-rounds f (fin s m e) (fin t n d) p q =
     let X = m * up e in
     let Y = n * up d in
     subst₂ (λ (u v : ℕ). Rounds f (sum f s (X * down d) t (Y * down e) (down e * down d)) u v (down e * down d))
-    (sym (ap₂ _+_ (pp-mul s X (down d)) (pp-mul t Y (down e)))) (sym (ap₂ _+_ (nn-mul s X (down d)) (nn-mul t Y (down e)))) (sum-rounds f s t (X * down d) (Y * down e) (down e * down d))
+    (sym (ap₂ _+_ (pp-mul s X (down d)) (pp-mul t Y (down e)))) (sym (ap₂ _+_ (nn-mul s X (down d)) (nn-mul t Y (down e))))
+    (sum-rounds f s t (X * down d) (Y * down e) (down e * down d))
 
-mul-rounds : (f : Format) (x y : Float) → T (finite x) → T (finite y) → Rounds f (mul f x y) (plus x * plus y + less x * less y) (plus x * less y + less x * plus y) (den x * den y)
+mul-rounds : (f : Format) (x y : Float) → T (finite x) → T (finite y)
+    → Rounds f (mul f x y) (plus x * plus y + less x * less y) (plus x * less y + less x * plus y) (den x * den y)
 unfolding mul
 mul-rounds f nan y p q = absurd p
 mul-rounds f (inf s) y p q = absurd p
@@ -118,10 +127,13 @@ mul-rounds f (fin false m e) (fin true n d) p q = inr (m * up e * (n * up d), re
 mul-rounds f (fin true m e) (fin false n d) p q = inr (m * up e * (n * up d), refl, omega arith)
 mul-rounds f (fin true m e) (fin true n d) p q = inl (m * up e * (n * up d), refl, omega arith)
 
-div-fin : (f : Format) (s : Bool) (m : ℕ) (e : ℤ) (n : ℕ) (d : ℤ) → T (ltb 0 n) → div f (fin s m e) (fin false n d) ≡ round f (unlike s false) (m * up e * down d) (n * up d * down e)
+div-fin : (f : Format) (s : Bool) (m : ℕ) (e : ℤ) (n : ℕ) (d : ℤ) → T (ltb 0 n)
+    → div f (fin s m e) (fin false n d) ≡ round f (unlike s false) (m * up e * down d) (n * up d * down e)
 unfolding div
 div-fin f s m e zero d p = absurd p
-div-fin f s m e (suc n) d p = ap (λ (b : Bool). cond b (cond (eqb m 0) nan (inf (unlike s false))) (round f (unlike s false) (m * up e * down d) (suc n * up d * down e))) (eqb·suc-zero n)
+div-fin f s m e (suc n) d p =
+    ap (λ (b : Bool). cond b (cond (eqb m 0) nan (inf (unlike s false))) (round f (unlike s false) (m * up e * down d) (suc n * up d * down e)))
+    (eqb·suc-zero n)
 
 div-rounds : (f : Format) (x y : Float) → T (finite x) → T (positive y) → Rounds f (div f x y) (plus x * den y) (less x * den y) (plus y * den x)
 div-rounds f nan y p q = absurd p
@@ -139,7 +151,8 @@ sum-left px nx dx qx mx cx py ny dy h = omega (arith, mul-le-mul-right (dy * dy)
 
 add-left : (f : Format) (x x' y : Float) → T (finite x) → T (finite x') → T (finite y) → T (le x x') → T (le (add f x y) (add f x' y))
 add-left f x x' y p p' q h =
-    rounds-mono f (add f x y) (add f x' y) _ _ _ _ _ _ (add-rounds f x y p q) (add-rounds f x' y p' q) (mul-pos (den-pos x) (den-pos y)) (mul-pos (den-pos x') (den-pos y))
+    rounds-mono f (add f x y) (add f x' y) _ _ _ _ _ _ (add-rounds f x y p q) (add-rounds f x' y p' q) (mul-pos (den-pos x) (den-pos y))
+    (mul-pos (den-pos x') (den-pos y))
     (sum-left (plus x) (less x) (den x) (plus x') (less x') (den x') (plus y) (less y) (den y) (le→cross x x' p p' h))
 
 sum-right : (py ny dy qy my cy px nx dx : ℕ) → py * cy + my * dy ≤ qy * dy + ny * cy
@@ -148,10 +161,12 @@ sum-right py ny dy qy my cy px nx dx h = omega (arith, mul-le-mul-right (dx * dx
 
 add-right : (f : Format) (x y y' : Float) → T (finite x) → T (finite y) → T (finite y') → T (le y y') → T (le (add f x y) (add f x y'))
 add-right f x y y' p q q' h =
-    rounds-mono f (add f x y) (add f x y') _ _ _ _ _ _ (add-rounds f x y p q) (add-rounds f x y' p q') (mul-pos (den-pos x) (den-pos y)) (mul-pos (den-pos x) (den-pos y'))
+    rounds-mono f (add f x y) (add f x y') _ _ _ _ _ _ (add-rounds f x y p q) (add-rounds f x y' p q') (mul-pos (den-pos x) (den-pos y))
+    (mul-pos (den-pos x) (den-pos y'))
     (sum-right (plus y) (less y) (den y) (plus y') (less y') (den y') (plus x) (less x) (den x) (le→cross y y' q q' h))
 
-pub add-mono : (f : Format) (x x' y y' : Float) → T (finite x) → T (finite x') → T (finite y) → T (finite y') → T (le x x') → T (le y y') → T (le (add f x y) (add f x' y'))
+pub add-mono : (f : Format) (x x' y y' : Float) → T (finite x) → T (finite x') → T (finite y) → T (finite y') → T (le x x') → T (le y y')
+    → T (le (add f x y) (add f x' y'))
 add-mono f x x' y y' p p' q q' h k = le-trans (add f x y) (add f x' y) (add f x' y') (add-left f x x' y p p' q h) (add-right f x' y y' p' q q' k)
 
 neg-finite : (x : Float) → T (finite x) → T (finite (neg x))
@@ -161,7 +176,8 @@ neg-finite (inf s) p = p
 neg-finite (fin s m e) p = tt
 
 -- the difference shrinks as its second term grows
-pub sub-mono : (f : Format) (x x' y y' : Float) → T (finite x) → T (finite x') → T (finite y) → T (finite y') → T (le x x') → T (le y' y) → T (le (sub f x y) (sub f x' y'))
+pub sub-mono : (f : Format) (x x' y y' : Float) → T (finite x) → T (finite x') → T (finite y) → T (finite y') → T (le x x') → T (le y' y)
+    → T (le (sub f x y) (sub f x' y'))
 unfolding sub
 sub-mono f x x' y y' p p' q q' h k = add-mono f x x' (neg y) (neg y') p p' (neg-finite y q) (neg-finite y' q') h (neg-le y' y k)
 
@@ -190,7 +206,8 @@ pub sub-nonpos : (f : Format) (x y : Float) → T (finite x) → T (finite y) �
 unfolding sub
 sub-nonpos f x y p q h =
     let n = neg-plus y q in
-    rounds-mono f (add f x (neg y)) plusZero _ _ _ 0 0 1 (add-rounds f x (neg y) p (neg-finite y q)) (inl (0, sym (zero-round f), refl)) (mul-pos (den-pos x) (den-pos (neg y))) (zero-lt-suc 0)
+    rounds-mono f (add f x (neg y)) plusZero _ _ _ 0 0 1 (add-rounds f x (neg y) p (neg-finite y q)) (inl (0, sym (zero-round f), refl))
+    (mul-pos (den-pos x) (den-pos (neg y))) (zero-lt-suc 0)
     (rw (n .0, n .1, n .2) (omega (arith, le→cross x y p q h)))
 
 -- ---- the product
@@ -205,12 +222,14 @@ mul-down px nx dx qx mx cx ny dy h = omega (arith, mul-le-mul-right (ny * dy) h)
 -- with a factor that is not negative, and with one that is not positive
 pub mul-mono : (f : Format) (x x' y : Float) → T (finite x) → T (finite x') → T (finite y) → T (le x x') → T (le plusZero y) → T (le (mul f x y) (mul f x' y))
 mul-mono f x x' y p p' q h k =
-    rounds-mono f (mul f x y) (mul f x' y) _ _ _ _ _ _ (mul-rounds f x y p q) (mul-rounds f x' y p' q) (mul-pos (den-pos x) (den-pos y)) (mul-pos (den-pos x') (den-pos y))
+    rounds-mono f (mul f x y) (mul f x' y) _ _ _ _ _ _ (mul-rounds f x y p q) (mul-rounds f x' y p' q) (mul-pos (den-pos x) (den-pos y))
+    (mul-pos (den-pos x') (den-pos y))
     (rw (no-less y q k) (mul-up (plus x) (less x) (den x) (plus x') (less x') (den x') (plus y) (den y) (le→cross x x' p p' h)))
 
 pub mul-anti : (f : Format) (x x' y : Float) → T (finite x) → T (finite x') → T (finite y) → T (le x x') → T (le y plusZero) → T (le (mul f x' y) (mul f x y))
 mul-anti f x x' y p p' q h k =
-    rounds-mono f (mul f x' y) (mul f x y) _ _ _ _ _ _ (mul-rounds f x' y p' q) (mul-rounds f x y p q) (mul-pos (den-pos x') (den-pos y)) (mul-pos (den-pos x) (den-pos y))
+    rounds-mono f (mul f x' y) (mul f x y) _ _ _ _ _ _ (mul-rounds f x' y p' q) (mul-rounds f x y p q) (mul-pos (den-pos x') (den-pos y))
+    (mul-pos (den-pos x) (den-pos y))
     (rw (no-plus y q k) (mul-down (plus x) (less x) (den x) (plus x') (less x') (den x') (less y) (den y) (le→cross x x' p p' h)))
 
 pub mul-swap : (f : Format) (x y : Float) → T (finite x) → T (finite y) → mul f x y ≡ mul f y x
@@ -242,7 +261,8 @@ div-mono f x x' y p p' q h =
     (quot-up (plus x) (less x) (den x) (plus x') (less x') (den x') (plus y) (den y) (le→cross x x' p p' h))
 
 -- y ≤ y', both positive
-quot-shrink : (px dx py dy qy cy : ℕ) → py * cy + 0 * dy ≤ qy * dy + 0 * cy → px * cy * (py * dx) + 0 * dy * (qy * dx) ≤ px * dy * (qy * dx) + 0 * cy * (py * dx)
+quot-shrink : (px dx py dy qy cy : ℕ) → py * cy + 0 * dy ≤ qy * dy + 0 * cy
+    → px * cy * (py * dx) + 0 * dy * (qy * dx) ≤ px * dy * (qy * dx) + 0 * cy * (py * dx)
 quot-shrink px dx py dy qy cy h = omega (arith, mul-le-mul-right (px * dx) h)
 
 quot-grow : (nx dx py dy qy cy : ℕ) → py * cy + 0 * dy ≤ qy * dy + 0 * cy → 0 * dy * (qy * dx) + nx * cy * (py * dx) ≤ 0 * cy * (py * dx) + nx * dy * (qy * dx)
@@ -254,14 +274,18 @@ cross-positive y y' q q' h =
     let b = positive-parts y' q' in
     subst₂ (λ (m n : ℕ). plus y * den y' + m * den y ≤ plus y' * den y + n * den y') (b .2) (a .2) (le→cross y y' (a .0) (b .0) h)
 
-pub div-anti : (f : Format) (x y y' : Float) → T (finite x) → T (positive y) → T (positive y') → T (le y y') → T (le plusZero x) → T (le (div f x y') (div f x y))
+pub div-anti : (f : Format) (x y y' : Float) → T (finite x) → T (positive y) → T (positive y') → T (le y y') → T (le plusZero x)
+    → T (le (div f x y') (div f x y))
 div-anti f x y y' p q q' h k =
-    rounds-mono f (div f x y') (div f x y) _ _ _ _ _ _ (div-rounds f x y' p q') (div-rounds f x y p q) (mul-pos (positive-parts y' q' .1) (den-pos x)) (mul-pos (positive-parts y q .1) (den-pos x))
+    rounds-mono f (div f x y') (div f x y) _ _ _ _ _ _ (div-rounds f x y' p q') (div-rounds f x y p q) (mul-pos (positive-parts y' q' .1) (den-pos x))
+    (mul-pos (positive-parts y q .1) (den-pos x))
     (rw (no-less x p k) (quot-shrink (plus x) (den x) (plus y) (den y) (plus y') (den y') (cross-positive y y' q q' h)))
 
-pub div-mono-below : (f : Format) (x y y' : Float) → T (finite x) → T (positive y) → T (positive y') → T (le y y') → T (le x plusZero) → T (le (div f x y) (div f x y'))
+pub div-mono-below : (f : Format) (x y y' : Float) → T (finite x) → T (positive y) → T (positive y') → T (le y y') → T (le x plusZero)
+    → T (le (div f x y) (div f x y'))
 div-mono-below f x y y' p q q' h k =
-    rounds-mono f (div f x y) (div f x y') _ _ _ _ _ _ (div-rounds f x y p q) (div-rounds f x y' p q') (mul-pos (positive-parts y q .1) (den-pos x)) (mul-pos (positive-parts y' q' .1) (den-pos x))
+    rounds-mono f (div f x y) (div f x y') _ _ _ _ _ _ (div-rounds f x y p q) (div-rounds f x y' p q') (mul-pos (positive-parts y q .1) (den-pos x))
+    (mul-pos (positive-parts y' q' .1) (den-pos x))
     (rw (no-plus x p k) (quot-grow (less x) (den x) (plus y) (den y) (plus y') (den y') (cross-positive y y' q q' h)))
 
 -- ---- results that are not negative

@@ -1,8 +1,9 @@
--- |x| ≤ n * 2 ^ k through each operation: the bound is itself a value of the format, and rounding keeps the order. So no step is a NaN or an infinity.
--- Beside it 2 ^ -b ≤ |x|, for divisors. Assumes nothing.
+-- |x| ≤ n * 2 ^ k through each operation: the bound is itself a value of the format, and rounding keeps the order. So
+-- no step is a NaN or an infinity. Beside it 2 ^ -b ≤ |x|, for divisors. Assumes nothing.
 use mathlib.Core.Path.{_≡_, refl, sym, ap, _∙_, subst, subst₂}
 use Prim.Native.Nat.{ℕ, zero, suc, _+_, _-_, _*_, _^_, _≤_, _<_}
-use native.Mathlib.Nat.{le-trans, le-of-eq, lt-of-lt-of-le, mul-comm, mul-assoc, mul-right-comm, mul-left-comm, mul-one, one-mul, mul-pos, mul-le-mul, mul-le-mul-right, le-of-mul-le-mul-right, zero-lt-suc, zero-mul, lt-irrefl, le-refl}
+use native.Mathlib.Nat.{le-trans, le-of-eq, lt-of-lt-of-le, mul-comm, mul-assoc, mul-right-comm, mul-left-comm, mul-one, one-mul}
+use native.Mathlib.Nat.{mul-pos, mul-le-mul, mul-le-mul-right, le-of-mul-le-mul-right, zero-lt-suc, zero-mul, lt-irrefl, le-refl}
 use native.Mathlib.Omega.{arith}
 use mathlib.Core.Bool.{Bool, true, false, cond}
 use lib.Dec.{T, eqb, lit<, eqb·suc-zero}
@@ -55,7 +56,8 @@ neg-upto {n} {k} {x} u = let e = neg-same x in record { finite = subst T (sym (e
 -- ---- n * 2 ^ k and 2 ^ -b are values of the format
 held : (f : Format) (n k : ℕ) → n < 2 ^ prec f → k + prec f ≤ emax f → HasValue (round f false (n * 2 ^ k) 1) false (n * 2 ^ k) 1
 held f n k h g =
-    round-exact f false (n * 2 ^ k) 1 n (k + low f) (zero-lt-suc 0) h (lt-of-lt-of-le (shl-lt (prec f) (k + low f) h) (pow-mono (room (prec f) k (low f) (emax f) g)))
+    round-exact f false (n * 2 ^ k) 1 n (k + low f) (zero-lt-suc 0) h
+    (lt-of-lt-of-le (shl-lt (prec f) (k + low f) h) (pow-mono (room (prec f) k (low f) (emax f) g)))
     (mul-assoc n (2 ^ k) (2 ^ low f) ∙ ap (λ (z : ℕ). n * z) (sym (pow-add 2 k (low f))) ∙ sym (mul-one (n * 2 ^ (k + low f))))
   where
     room : (p k l e : ℕ) → k + p ≤ e → p + (k + l) ≤ l + suc e
@@ -63,8 +65,10 @@ held f n k h g =
 
 held-below : (f : Format) (b : ℕ) → b ≤ low f → HasValue (round f false 1 (2 ^ b)) false 1 (2 ^ b)
 held-below f b h =
-    round-exact f false 1 (2 ^ b) 1 (low f - b) (pow-pos b) (one f) (subst (λ (z : ℕ). z < 2 ^ (low f + suc (emax f))) (sym (one-mul (2 ^ (low f - b)))) (pow-lt (room (low f) b (emax f))))
-    (one-mul (2 ^ low f) ∙ ap (λ (z : ℕ). 2 ^ z) (sym (back (low f) b h)) ∙ pow-add 2 (low f - b) b ∙ ap (λ (z : ℕ). z * 2 ^ b) (sym (one-mul (2 ^ (low f - b)))))
+    round-exact f false 1 (2 ^ b) 1 (low f - b) (pow-pos b) (one f)
+    (subst (λ (z : ℕ). z < 2 ^ (low f + suc (emax f))) (sym (one-mul (2 ^ (low f - b)))) (pow-lt (room (low f) b (emax f))))
+    (one-mul (2 ^ low f) ∙ ap (λ (z : ℕ). 2 ^ z) (sym (back (low f) b h)) ∙ pow-add 2 (low f - b) b
+    ∙ ap (λ (z : ℕ). z * 2 ^ b) (sym (one-mul (2 ^ (low f - b)))))
   where
     one : (f : Format) → 1 < 2 ^ prec f
     one binary32 = lit< tt
@@ -84,7 +88,8 @@ num-cross : (x y : Float) → minusSign x ≡ false → minusSign y ≡ false �
 num-cross x y s t p q h =
     let a = unsigned x s in
     let b = unsigned y t in
-    let c : num x * den y + 0 * den x ≤ num y * den x + 0 * den y = subst₂ (λ (u v : ℕ). u * den y + 0 * den x ≤ v * den x + 0 * den y) (a .0) (b .0) (subst₂ (λ (u v : ℕ). plus x * den y + u * den x ≤ plus y * den x + v * den y) (b .1) (a .1) (le→cross x y p q h)) in
+    let c : num x * den y + 0 * den x ≤ num y * den x + 0 * den y = subst₂ (λ (u v : ℕ). u * den y + 0 * den x ≤ v * den x + 0 * den y) (a .0) (b .0)
+    (subst₂ (λ (u v : ℕ). plus x * den y + u * den x ≤ plus y * den x + v * den y) (b .1) (a .1) (le→cross x y p q h)) in
     omega arith
 
 -- the sign changes nothing of the size
@@ -107,7 +112,9 @@ round-upto f s a c n k C h g l =
     let e = round-size f s a c in
     record {
       finite = subst T (sym (e .0)) R;
-      size = rw (e .1, e .2) (cut (num r) (den r) (num B) (den B) (n * 2 ^ k) (den-pos B) (num-cross r B (round-sign f false a c) (round-sign f false (n * 2 ^ k) 1) R F o) (value→cross B (n * 2 ^ k) 1 v));
+      size =
+          rw (e .1, e .2) (cut (num r) (den r) (num B) (den B) (n * 2 ^ k) (den-pos B)
+          (num-cross r B (round-sign f false a c) (round-sign f false (n * 2 ^ k) 1) R F o) (value→cross B (n * 2 ^ k) 1 v));
     }
   where
     cut : (p q t u b : ℕ) → 0 < u → p * u ≤ t * q → t * 1 ≡ b * u → p ≤ b * q
@@ -123,7 +130,9 @@ round-least f s a c b C h l R =
     let e = round-size f s a c in
     record {
       finite = R;
-      size = rw (e .1, e .2) (cut (num B) (den B) (num r) (den r) (2 ^ b) (den-pos B) (num-cross B r (round-sign f false 1 (2 ^ b)) (round-sign f false a c) F (subst T (e .0) R) o) (value→cross B 1 (2 ^ b) v));
+      size =
+          rw (e .1, e .2) (cut (num B) (den B) (num r) (den r) (2 ^ b) (den-pos B)
+          (num-cross B r (round-sign f false 1 (2 ^ b)) (round-sign f false a c) F (subst T (e .0) R) o) (value→cross B 1 (2 ^ b) v));
     }
   where
     cut : (t u p q w : ℕ) → 0 < u → t * q ≤ p * u → t * w ≡ 1 * u → q ≤ p * w
@@ -145,7 +154,8 @@ upto-within {n} {k} {l} {h} {x} a b w =
     over : (p q t u b : ℕ) → 0 < u → p * u ≤ t * q → t ≤ b * u → p ≤ b * q
     over p q t u b U h e = le-of-mul-le-mul-right (le-trans h (le-trans (mul-le-mul-right q e) (le-of-eq (mul-right-comm b u q)))) U
 
-    go : (x : Float) → T (finite x) → plus l * den x + less x * den l ≤ plus x * den l + less l * den x → plus x * den h + less h * den x ≤ plus h * den x + less x * den h → num x ≤ n * 2 ^ k * den x
+    go : (x : Float) → T (finite x) → plus l * den x + less x * den l ≤ plus x * den l + less l * den x
+        → plus x * den h + less h * den x ≤ plus h * den x + less x * den h → num x ≤ n * 2 ^ k * den x
     go nan F p q = absurd F
     go (inf s) F p q = absurd F
     go (fin false m e) F p q = over (m * up e) (down e) (plus h) (den h) (n * 2 ^ k) (den-pos h) (omega arith) (le-trans (plus-num h) (b .size))
@@ -161,7 +171,8 @@ within-upto {n} {k} {x} u =
 
 -- a whole number
 pub upto-whole : {x : Float} {z : ℤ} (n k : ℕ) → Whole x z → natAbs z ≤ n * 2 ^ k → Upto n k x
-upto-whole n k (whole s m e i p) h = record { finite = tt; size = le-trans (le-of-eq p) (mul-le-mul-right (down e) (le-trans (le-of-eq (sym (abs-signed s i))) h)) }
+upto-whole n k (whole s m e i p) h =
+    record { finite = tt; size = le-trans (le-of-eq p) (mul-le-mul-right (down e) (le-trans (le-of-eq (sym (abs-signed s i))) h)) }
 
 pub least-whole : {x : Float} {z : ℤ} → Whole x z → 0 < natAbs z → Least 0 x
 least-whole (whole s m e zero p) h = absurd (lt-irrefl 0 (subst (λ (n : ℕ). 0 < n) (abs-signed s 0) h))
@@ -170,7 +181,12 @@ least-whole (whole s m e (suc i) p) h = record { finite = tt; size = omega (arit
 -- what is at least a positive bound
 pub least-above : {b : ℕ} {l x : Float} → Least b l → T (le plusZero l) → T (le l x) → T (finite x) → Least b x
 least-above {b} {l} {x} u o h F =
-    record { finite = F; size = cut (num l) (den l) (num x) (den x) (2 ^ b) (den-pos l) (u .size) (over (plus l) (less l) (num l) (den l) (plus x) (less x) (num x) (den x) (no-less l (u .finite) o) (num-parts l) (plus-num x) (le→cross l x (u .finite) F h)) }
+    record {
+      finite = F;
+      size = cut (num l) (den l) (num x) (den x) (2 ^ b) (den-pos l) (u .size)
+          (over (plus l) (less l) (num l) (den l) (plus x) (less x) (num x) (den x) (no-less l (u .finite) o) (num-parts l) (plus-num x)
+          (le→cross l x (u .finite) F h));
+    }
   where
     over : (p n a d q m b e : ℕ) → n ≡ 0 → a ≡ p + n → q ≤ b → p * e + m * d ≤ q * d + n * e → a * e ≤ b * d
     over p n a d q m b e z s l h = omega (arith, ap (λ (k : ℕ). k * e) z, ap (λ (k : ℕ). k * e) s, mul-le-mul-right d l)
@@ -179,12 +195,15 @@ least-above {b} {l} {x} u o h F =
     cut a d b e w D h k = le-of-mul-le-mul-right (omega (arith, mul-le-mul-right e h, mul-le-mul-right w k)) D
 
 -- ---- sums and differences
-rounds-upto : (f : Format) (r : Float) (p q c n k : ℕ) → Rounds f r p q c → 0 < c → n < 2 ^ prec f → k + prec f ≤ emax f → p ≤ n * 2 ^ k * c → q ≤ n * 2 ^ k * c → Upto n k r
-rounds-upto f r p q c n k (inl a) C h g l m = subst (λ (x : Float). Upto n k x) (sym (a .1)) (round-upto f false (a .0) c n k C h g (le-trans (part p q (a .0) (a .2)) l))
+rounds-upto : (f : Format) (r : Float) (p q c n k : ℕ) → Rounds f r p q c → 0 < c → n < 2 ^ prec f → k + prec f ≤ emax f → p ≤ n * 2 ^ k * c
+    → q ≤ n * 2 ^ k * c → Upto n k r
+rounds-upto f r p q c n k (inl a) C h g l m =
+    subst (λ (x : Float). Upto n k x) (sym (a .1)) (round-upto f false (a .0) c n k C h g (le-trans (part p q (a .0) (a .2)) l))
   where
     part : (p q d : ℕ) → p ≡ q + d → d ≤ p
     part p q d e = omega arith
-rounds-upto f r p q c n k (inr a) C h g l m = subst (λ (x : Float). Upto n k x) (sym (a .1)) (round-upto f true (a .0) c n k C h g (le-trans (part q p (a .0) (a .2)) m))
+rounds-upto f r p q c n k (inr a) C h g l m =
+    subst (λ (x : Float). Upto n k x) (sym (a .1)) (round-upto f true (a .0) c n k C h g (le-trans (part q p (a .0) (a .2)) m))
   where
     part : (p q d : ℕ) → p ≡ q + d → d ≤ p
     part p q d e = omega arith
@@ -207,19 +226,24 @@ unfolding le
 zero-zero = tt
 
 -- n terms, each within 2 ^ k, from 0.0
-pub run-upto : (f : Format) (k : ℕ) (x : ℕ → Float) (n : ℕ) → ((i : ℕ) → i < n → Upto 1 k (x i)) → n < 2 ^ prec f → k + prec f ≤ emax f → Upto n k (run (add f) plusZero x n)
+pub run-upto : (f : Format) (k : ℕ) (x : ℕ → Float) (n : ℕ) → ((i : ℕ) → i < n → Upto 1 k (x i)) → n < 2 ^ prec f → k + prec f ≤ emax f
+    → Upto n k (run (add f) plusZero x n)
 unfolding run
 run-upto f k x zero w h g = upto-zero
-run-upto f k x (suc n) w h g = upto-wider (suc n) k (add-upto f (run-upto f k x n (λ i m. w i (omega arith)) (omega arith) g) (w n (le-refl (suc n))) (omega arith) g) (omega arith)
+run-upto f k x (suc n) w h g =
+    upto-wider (suc n) k (add-upto f (run-upto f k x n (λ i m. w i (omega arith)) (omega arith) g) (w n (le-refl (suc n))) (omega arith) g)
+    (omega arith)
 
 -- and of values that are not negative, not negative
-pub run-above : (f : Format) (k : ℕ) (x : ℕ → Float) (n : ℕ) → ((i : ℕ) → i < n → Upto 1 k (x i)) → ((i : ℕ) → i < n → T (le plusZero (x i))) → n < 2 ^ prec f → k + prec f ≤ emax f → T (le plusZero (run (add f) plusZero x n))
+pub run-above : (f : Format) (k : ℕ) (x : ℕ → Float) (n : ℕ) → ((i : ℕ) → i < n → Upto 1 k (x i)) → ((i : ℕ) → i < n → T (le plusZero (x i)))
+    → n < 2 ^ prec f → k + prec f ≤ emax f → T (le plusZero (run (add f) plusZero x n))
 unfolding run
 run-above f k x zero u w h g = zero-zero
 run-above f k x (suc n) u w h g =
     let l : n < 2 ^ prec f = omega arith in
     let v : (i : ℕ) → i < n → Upto 1 k (x i) = λ i m. u i (omega arith) in
-    add-above f (run (add f) plusZero x n) (x n) (run-upto f k x n v l g .finite) (u n (le-refl (suc n)) .finite) (run-above f k x n v (λ i m. w i (omega arith)) l g) (w n (le-refl (suc n)))
+    add-above f (run (add f) plusZero x n) (x n) (run-upto f k x n v l g .finite) (u n (le-refl (suc n)) .finite)
+    (run-above f k x n v (λ i m. w i (omega arith)) l g) (w n (le-refl (suc n)))
 
 -- ---- products and quotients
 product : (p d q e a b w z : ℕ) → p ≤ a * w * d → q ≤ b * z * e → p * q ≤ a * b * (w * z) * (d * e)
@@ -241,15 +265,20 @@ div-round f (inf s) y p q h = absurd p
 div-round f (fin s m e) nan p q h = absurd q
 div-round f (fin s m e) (inf t) p q h = absurd q
 div-round f (fin s m e) (fin t zero d) p q h = absurd (lt-irrefl 0 (subst (λ (n : ℕ). 0 < n) (zero-mul (up d)) h))
-div-round f (fin s m e) (fin t (suc n) d) p q h =
-    (unlike s t, ap (λ (b : Bool). cond b (cond (eqb m 0) nan (inf (unlike s t))) (round f (unlike s t) (m * up e * down d) (suc n * up d * down e))) (eqb·suc-zero n))
+div-round f (fin s m e) (fin t (suc n) d) p q h = (
+  unlike s t,
+  ap (λ (b : Bool). cond b (cond (eqb m 0) nan (inf (unlike s t))) (round f (unlike s t) (m * up e * down d) (suc n * up d * down e)))
+      (eqb·suc-zero n),
+)
 
-pub mul-upto : (f : Format) {a b j k : ℕ} {x y : Float} → Upto a j x → Upto b k y → a * b < 2 ^ prec f → j + k + prec f ≤ emax f → Upto (a * b) (j + k) (mul f x y)
+pub mul-upto : (f : Format) {a b j k : ℕ} {x y : Float} → Upto a j x → Upto b k y → a * b < 2 ^ prec f → j + k + prec f ≤ emax f
+    → Upto (a * b) (j + k) (mul f x y)
 mul-upto f {a} {b} {j} {k} {x} {y} u v h g =
     let (s, e) = mul-round f x y (u .finite) (v .finite) in
     subst (λ (z : Float). Upto (a * b) (j + k) z) (sym e)
     (round-upto f s (num x * num y) (den x * den y) (a * b) (j + k) (mul-pos (den-pos x) (den-pos y)) h g
-    (subst (λ (w : ℕ). num x * num y ≤ a * b * w * (den x * den y)) (sym (pow-add 2 j k)) (product (num x) (den x) (num y) (den y) a b (2 ^ j) (2 ^ k) (u .size) (v .size))))
+    (subst (λ (w : ℕ). num x * num y ≤ a * b * w * (den x * den y)) (sym (pow-add 2 j k))
+    (product (num x) (den x) (num y) (den y) a b (2 ^ j) (2 ^ k) (u .size) (v .size))))
 
 pub least-pos : {b : ℕ} {y : Float} → Least b y → 0 < num y
 least-pos {b} {y} v = go (num y) (v .size)
@@ -272,7 +301,8 @@ div-least f {a} {k} {x} {y} u v n h g =
     let (s, e) = div-round f x y (u .finite) (v .finite) n in
     subst (λ (z : Float). Least (a + k) z) (sym e)
     (round-least f s (num x * den y) (num y * den x) (a + k) (mul-pos n (den-pos x)) h
-    (subst (λ (w : ℕ). num y * den x ≤ num x * den y * w) (sym (pow-add 2 a k)) (le-trans (mul-le-mul (v .size) (u .size)) (le-of-eq (turned (2 ^ k) (den y) (num x) (2 ^ a)))))
+    (subst (λ (w : ℕ). num y * den x ≤ num x * den y * w) (sym (pow-add 2 a k))
+    (le-trans (mul-le-mul (v .size) (u .size)) (le-of-eq (turned (2 ^ k) (den y) (num x) (2 ^ a)))))
     (subst (λ (z : Float). T (finite z)) e g))
   where
     turned : (w d n z : ℕ) → 1 * w * d * (n * z) ≡ n * d * (z * w)

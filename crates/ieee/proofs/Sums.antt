@@ -1,12 +1,14 @@
--- Whole floats add, subtract and compare as the integers do, in either format, while the result's size is at most 2 ^ prec: 2 ^ 24 for f32, 2 ^ 53 for f64.
--- The exact sum is a whole number at the common denominator, and `round` leaves it as it is. Assumes nothing.
+-- Whole floats add, subtract and compare as the integers do, in either format, while the result's size is at most
+-- 2 ^ prec: 2 ^ 24 for f32, 2 ^ 53 for f64. The exact sum is a whole number at the common denominator, and `round` leaves
+-- it as it is. Assumes nothing.
 use mathlib.Core.Path.{_≡_, refl, sym, ap, ap₂, _∙_, subst, subst₂}
 use Prim.Native.Nat.{ℕ, zero, suc, _+_, _-_, _*_, _^_, _≤_, _<_}
-use native.Mathlib.Nat.{le-trans, le-of-eq, mul-assoc, mul-comm, mul-right-comm, mul-one, add-mul, mul-pos, le-of-mul-le-mul-right, lt-of-mul-lt-mul-right, zero-lt-suc, zero-mul, mul-sub, mul-lt-mul-of-pos-right, eq-of-mul-eq-mul-right}
+use native.Mathlib.Nat.{le-trans, le-of-eq, mul-assoc, mul-comm, mul-right-comm, mul-one, add-mul}
+use native.Mathlib.Nat.{mul-pos, le-of-mul-le-mul-right, lt-of-mul-lt-mul-right, zero-lt-suc, zero-mul, mul-sub, mul-lt-mul-of-pos-right}
 use native.Mathlib.Omega.{arith}
 use mathlib.Core.Bool.{Bool, true, false, not, cond}
 use lib.Dec.{T, ltb, ltb→lt, lt→ltb, nltb→le, not-T}
-use lib.IntN.{ℤ, pos, negℤ, natAbs, _+ℤ_, _-ℤ_}
+use lib.IntN.{ℤ, negℤ, natAbs, _+ℤ_, _-ℤ_}
 use lib.Signed.{ltZ, leZ, leZ-yes, ltZ-yes, ltZ-no, clashℤ}
 use lib.Ieee.{Float, nan, inf, fin, Format, prec, up, down, round, sum, add, sub, neg, below, lt, le}
 use lib.Ieee.Fits.{down-pos}
@@ -14,7 +16,7 @@ use lib.Ieee.Exact.{HasValue}
 use lib.Ieee.Bits.{is-true}
 use lib.Ieee.Scale.{finite, round-same}
 use lib.Ieee.Back.{round-whole}
-use Rattle.ieee.specs.Whole.{plusZero, signed, Whole, whole}
+use Rattle.ieee.specs.Whole.{signed, Whole, whole}
 use Rattle.ieee.proofs.Integers.{abs-signed, neg-signed, like, sub-up, sub-down, below-is}
 use Rattle.ieee.proofs.Order.{finite-not-nan, not-lt→le, le→not-lt}
 
@@ -66,12 +68,14 @@ apart f t u a b c C h k = go (ltb (a * c) (b * c)) (ltb→lt (a * c) (b * c)) (n
     go true p q = up-case (lt-of-mul-lt-mul-right c (p tt))
     go false p q = down-case (le-of-mul-le-mul-right (q tt) C)
 
-sum-whole : (f : Format) (s t : Bool) (a b c : ℕ) → 0 < c → natAbs (signed s a +ℤ signed t b) ≤ 2 ^ prec f → Whole (sum f s (a * c) t (b * c) c) (signed s a +ℤ signed t b)
+sum-whole : (f : Format) (s t : Bool) (a b c : ℕ) → 0 < c → natAbs (signed s a +ℤ signed t b) ≤ 2 ^ prec f
+    → Whole (sum f s (a * c) t (b * c) c) (signed s a +ℤ signed t b)
 unfolding sum
 sum-whole f false false a b c C h = round-of f false (a * c + b * c) c (a + b) C (sym (add-mul a b c)) h
 sum-whole f true true a b c C h =
     subst (λ (z : ℤ). Whole (round f true (a * c + b * c) c) z) (sym (like true a b))
-    (round-of f true (a * c + b * c) c (a + b) C (sym (add-mul a b c)) (le-trans (le-of-eq (sym (abs-signed true (a + b)) ∙ ap natAbs (sym (like true a b)))) h))
+    (round-of f true (a * c + b * c) c (a + b) C (sym (add-mul a b c))
+    (le-trans (le-of-eq (sym (abs-signed true (a + b)) ∙ ap natAbs (sym (like true a b)))) h))
 sum-whole f false true a b c C h = apart f true false a b c C h (λ _. refl)
 sum-whole f true false a b c C h = apart f false (ltb (b * c) (a * c)) a b c C h (λ g. is-true (ltb (b * c) (a * c)) (lt→ltb (b * c) (a * c) g))
 
@@ -86,7 +90,8 @@ right x a c d e = ap (λ (n : ℕ). n * c) e ∙ mul-right-comm a d c ∙ mul-as
 pub add-whole : (f : Format) {x y : Float} {a b : ℤ} → Whole x a → Whole y b → natAbs (a +ℤ b) ≤ 2 ^ prec f → Whole (add f x y) (a +ℤ b)
 unfolding add
 add-whole f (whole s m e k p) (whole t n d l q) h =
-    subst₂ (λ (x y : ℕ). Whole (sum f s x t y (down e * down d)) (signed s k +ℤ signed t l)) (sym (left (m * up e) k (down e) (down d) p)) (sym (right (n * up d) l (down e) (down d) q))
+    subst₂ (λ (x y : ℕ). Whole (sum f s x t y (down e * down d)) (signed s k +ℤ signed t l)) (sym (left (m * up e) k (down e) (down d) p))
+    (sym (right (n * up d) l (down e) (down d) q))
     (sum-whole f s t k l (down e * down d) (mul-pos (down-pos e) (down-pos d)) h)
 
 pub neg-whole : {x : Float} {a : ℤ} → Whole x a → Whole (neg x) (negℤ a)
@@ -97,15 +102,8 @@ pub sub-whole : (f : Format) {x y : Float} {a b : ℤ} → Whole x a → Whole y
 unfolding sub
 sub-whole f p q h = add-whole f p (neg-whole q) h
 
-pub whole-zero : Whole plusZero (pos 0)
-whole-zero = whole false 0 (pos 0) 0 refl
-
 pub whole-finite : {x : Float} {a : ℤ} → Whole x a → T (finite x)
 whole-finite (whole s m e k p) = tt
-
--- a float is at most one whole number
-pub whole-once : {x : Float} {a b : ℤ} → Whole x a → Whole x b → a ≡ b
-whole-once (whole s m e k p) (whole _ _ _ l q) = ap (signed s) (eq-of-mul-eq-mul-right (down e) (down-pos e) k l (sym p ∙ q))
 
 -- ---- comparison: `<` and `<=` are the integers'
 bool-ext : (p q : Bool) → (T p → T q) → (T q → T p) → p ≡ q

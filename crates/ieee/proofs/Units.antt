@@ -1,9 +1,10 @@
--- How far a rounded sum is from the exact one: at most half a unit in the last place. Exact values are counted in units of the format's smallest,
--- of which every finite value is a whole number. Assumes nothing.
+-- How far a rounded sum is from the exact one: at most half a unit in the last place. Exact values are counted in units
+-- of the format's smallest, of which every finite value is a whole number. Assumes nothing.
 use mathlib.Core.Path.{_≡_, sym, ap, ap₂, _∙_, subst, subst₂}
 use mathlib.Core.Logic.{inl, inr}
 use Prim.Native.Nat.{ℕ, zero, suc, _+_, _-_, _*_, _/_, _%_, _^_, _≤_, _<_, compare, Ordering, Ordering·lt, Ordering·eq, Ordering·gt}
-use native.Mathlib.Nat.{le-refl, le-trans, le-of-eq, le-antisymm, lt-of-le-of-lt, add-zero, zero-add, mul-comm, mul-right-comm, mul-pos, mul-le-mul-right, le-of-mul-le-mul-right, eq-of-mul-eq-mul-right, mul-div-cancel, div-add-mod', mod-lt}
+use native.Mathlib.Nat.{le-refl, le-trans, le-of-eq, le-antisymm, lt-of-le-of-lt, add-zero, zero-add, mul-comm}
+use native.Mathlib.Nat.{mul-right-comm, mul-pos, mul-le-mul-right, le-of-mul-le-mul-right, mul-div-cancel, div-add-mod', mod-lt}
 use native.Mathlib.Omega.{arith}
 use mathlib.Core.Bool.{Bool, true, false, not}
 use lib.Dec.{T, isLe, isEq, leb→le, nleb→lt, eqb→eq}
@@ -101,7 +102,12 @@ off-by s n g d h k = by-test g n less-than more-than
     less-than l =
         let e : n - (n - g) ≡ g = omega arith in
         let m : n - g ≤ d = omega arith in
-        record { by = signed (not s) (n - g); is = take s n (n - g) (omega arith) ∙ ap (signed s) e; small = le-trans (le-of-eq (abs-signed (not s) (n - g))) m }
+        record {
+          by = signed (not s) (n - g);
+          is = take s n (n - g) (omega arith)
+              ∙ ap (signed s) e;
+          small = le-trans (le-of-eq (abs-signed (not s) (n - g))) m;
+        }
 
     more-than : n ≤ g → Off s n g d
     more-than l =
@@ -109,18 +115,25 @@ off-by s n g d h k = by-test g n less-than more-than
         let m : g - n ≤ d = omega arith in
         record { by = signed s (g - n); is = like s n (g - n) ∙ ap (signed s) e; small = le-trans (le-of-eq (abs-signed s (g - n))) m }
 
-round-near : (f : Format) (s : Bool) (a c N h : ℕ) → 0 < c → a * 2 ^ low f ≡ N * c → N ≤ 2 ^ (prec f + suc h) → T (finite (round f s a c)) → Near (low f) (2 ^ h) (round f s a c) (signed s N)
+round-near : (f : Format) (s : Bool) (a c N h : ℕ) → 0 < c → a * 2 ^ low f ≡ N * c → N ≤ 2 ^ (prec f + suc h) → T (finite (round f s a c))
+    → Near (low f) (2 ^ h) (round f s a c) (signed s N)
 round-near f s a c N h C e l F =
     let (hi, lo) = grid-near f a c N h C e l in
     let o = off-by s N (grid f a c) (2 ^ h) hi lo in
     let v : HasValue (round f s a c) s (grid f a c) (2 ^ low f) =
     subst (λ (x : Float). HasValue x s (grid f a c) (2 ^ low f)) (sym (round-is f s a c))
     (units-val f s (kept (prec f) (a * 2 ^ low f) c) (drop (prec f) (a * 2 ^ low f) c) (round-under f a c (subst T (round-size f s a c .0) F))) in
-    record { off = o .by; is = subst (λ (z : ℤ). Units (low f) (round f s a c) z) (sym (o .is)) (of-value (round f s a c) s (low f) (grid f a c) v); small = o .small }
+    record {
+      off = o .by;
+      is = subst (λ (z : ℤ). Units (low f) (round f s a c) z) (sym (o .is))
+          (of-value (round f s a c) s (low f) (grid f a c) v);
+      small = o .small;
+    }
 
 -- ---- a sum
 -- z is P - Q units, with the sign s
-one-way : (f : Format) (s : Bool) (r : Float) (p q k c P Q h : ℕ) (z : ℤ) → r ≡ round f s k c → p ≡ q + k → 0 < c → p * 2 ^ low f ≡ P * c → q * 2 ^ low f ≡ Q * c
+one-way : (f : Format) (s : Bool) (r : Float) (p q k c P Q h : ℕ) (z : ℤ) → r ≡ round f s k c → p ≡ q + k → 0 < c → p * 2 ^ low f ≡ P * c
+    → q * 2 ^ low f ≡ Q * c
     → (Q ≤ P → z ≡ signed s (P - Q)) → natAbs z ≤ 2 ^ (prec f + suc h) → T (finite r) → Near (low f) (2 ^ h) r z
 one-way f s r p q k c P Q h z e i C u v is l F =
     let d = is (le-of-mul-le-mul-right (at-most p q k c (2 ^ low f) P Q i u v) C) in
@@ -134,7 +147,8 @@ one-way f s r p q k c P Q h z e i C u v is l F =
 rounds-near : (f : Format) (r : Float) (p q c P Q h : ℕ) → Rounds f r p q c → 0 < c → p * 2 ^ low f ≡ P * c → q * 2 ^ low f ≡ Q * c
     → natAbs (signed false P +ℤ signed true Q) ≤ 2 ^ (prec f + suc h) → T (finite r) → Near (low f) (2 ^ h) r (signed false P +ℤ signed true Q)
 rounds-near f r p q c P Q h (inl (k, e, i)) C u v l F = one-way f false r p q k c P Q h _ e i C u v (λ o. sub-down true P Q o) l F
-rounds-near f r p q c P Q h (inr (k, e, i)) C u v l F = one-way f true r q p k c Q P h _ e i C v u (λ o. +ℤ-comm (signed false P) (signed true Q) ∙ sub-down false Q P o) l F
+rounds-near f r p q c P Q h (inr (k, e, i)) C u v l F =
+    one-way f true r q p k c Q P h _ e i C v u (λ o. +ℤ-comm (signed false P) (signed true Q) ∙ sub-down false Q P o) l F
 
 -- a sign and a size, as a difference
 parts : (s : Bool) (a k w d : ℕ) → a * w ≡ k * d → (pp s a * w ≡ pp s k * d) × (nn s a * w ≡ nn s k * d)
@@ -149,7 +163,8 @@ difference true false k l = +ℤ-comm (signed true k) (signed false l) ∙ sym (
 
 -- THE ROUNDING LAW: an exact sum of at most 2 ^ (prec + 1 + h) units loses at most 2 ^ h of them. For f32 that is: within ±2 ^ k, off by at most
 -- 2 ^ (k - 25), as 2 ^ (k + 149) units are 2 ^ k.
-pub add-near : (f : Format) (h : ℕ) {x y : Float} {a b : ℤ} → Units (low f) x a → Units (low f) y b → natAbs (a +ℤ b) ≤ 2 ^ (prec f + suc h) → T (finite (add f x y))
+pub add-near : (f : Format) (h : ℕ) {x y : Float} {a b : ℤ} → Units (low f) x a → Units (low f) y b → natAbs (a +ℤ b) ≤ 2 ^ (prec f + suc h)
+    → T (finite (add f x y))
     → Near (low f) (2 ^ h) (add f x y) (a +ℤ b)
 add-near f h (units s m e k u) (units t n d l v) small F =
     let w = 2 ^ low f in
@@ -159,14 +174,17 @@ add-near f h (units s m e k u) (units t n d l v) small F =
     let (py, ny) = parts t Y l w (down d) v in
     let z = difference s t k l in
     subst (λ (i : ℤ). Near (low f) (2 ^ h) (add f (fin s m e) (fin t n d)) i) (sym z)
-    (rounds-near f (add f (fin s m e) (fin t n d)) _ _ _ (pp s k + pp t l) (nn s k + nn t l) h (add-rounds f (fin s m e) (fin t n d) tt tt) (mul-pos (down-pos e) (down-pos d))
+    (rounds-near f (add f (fin s m e) (fin t n d)) _ _ _ (pp s k + pp t l) (nn s k + nn t l) h (add-rounds f (fin s m e) (fin t n d) tt tt)
+    (mul-pos (down-pos e) (down-pos d))
     (both (pp s X) (down e) (pp t Y) (down d) (pp s k) (pp t l) w px py) (both (nn s X) (down e) (nn t Y) (down d) (nn s k) (nn t l) w nx ny)
     (subst (λ (i : ℤ). natAbs i ≤ 2 ^ (prec f + suc h)) z small) F)
 
 -- ---- a sum of two that are off, and of n of them, from the left
 pub units-size : {n k j : ℕ} {x : Float} {z : ℤ} → Upto n k x → Units j x z → natAbs z ≤ n * 2 ^ (k + j)
 units-size {n} {k} {j} u (units s m e i p) =
-    le-trans (le-of-eq (abs-signed s i)) (le-of-mul-le-mul-right (subst (λ (w : ℕ). i * down e ≤ n * w * down e) (sym (pow-add 2 k j)) (cut (m * up e) i (down e) (2 ^ k) (2 ^ j) (u .size) p)) (down-pos e))
+    le-trans (le-of-eq (abs-signed s i))
+    (le-of-mul-le-mul-right
+    (subst (λ (w : ℕ). i * down e ≤ n * w * down e) (sym (pow-add 2 k j)) (cut (m * up e) i (down e) (2 ^ k) (2 ^ j) (u .size) p)) (down-pos e))
   where
     cut : (a i d w v : ℕ) → a ≤ n * w * d → a * v ≡ i * d → i * d ≤ n * (w * v) * d
     cut a i d w v h p = omega (arith, mul-le-mul-right v h)
@@ -181,7 +199,9 @@ near-add f h {m} {n} {k} {x = x} {y = y} {a = a} {b = b} u v p q few room l =
     let r = add-near f h (p .is) (q .is) size (add-upto f u v few room .finite) in
     record {
       off = p .off +ℤ q .off +ℤ r .off;
-      is = subst (λ (z : ℤ). Units (low f) (add f x y) z) (ap (λ (z : ℤ). z +ℤ r .off) (+ℤ-swap a (p .off) b (q .off)) ∙ +ℤ-assoc (a +ℤ b) (p .off +ℤ q .off) (r .off)) (r .is);
+      is =
+          subst (λ (z : ℤ). Units (low f) (add f x y) z)
+          (ap (λ (z : ℤ). z +ℤ r .off) (+ℤ-swap a (p .off) b (q .off)) ∙ +ℤ-assoc (a +ℤ b) (p .off +ℤ q .off) (r .off)) (r .is);
       small = le-trans (abs-add (p .off +ℤ q .off) (r .off)) (omega (arith, abs-add (p .off) (q .off), p .small, q .small, r .small));
     }
 
@@ -192,8 +212,10 @@ pub near-units : {j : ℕ} {x : Float} {z : ℤ} → Units j x z → Near j 0 x 
 near-units {j} {x} {z} u = record { off = pos 0; is = subst (λ (a : ℤ). Units j x a) (sym (+ℤ-idr z)) u; small = le-refl 0 }
 
 -- n terms, each within 2 ^ k and at most d units off, from 0.0: each step loses at most 2 ^ h units more
-pub run-near : (f : Format) (k h d : ℕ) (x : ℕ → Float) (z : ℕ → ℤ) (n : ℕ) → ((i : ℕ) → i < n → Upto 1 k (x i)) → ((i : ℕ) → i < n → Near (low f) d (x i) (z i))
-    → n < 2 ^ prec f → k + prec f ≤ emax f → n * 2 ^ (k + low f) ≤ 2 ^ (prec f + suc h) → Near (low f) (n * (d + 2 ^ h)) (run (add f) plusZero x n) (run _+ℤ_ (pos 0) z n)
+pub run-near : (f : Format) (k h d : ℕ) (x : ℕ → Float) (z : ℕ → ℤ) (n : ℕ) → ((i : ℕ) → i < n → Upto 1 k (x i))
+    → ((i : ℕ) → i < n → Near (low f) d (x i) (z i))
+    → n < 2 ^ prec f → k + prec f ≤ emax f → n * 2 ^ (k + low f) ≤ 2 ^ (prec f + suc h)
+    → Near (low f) (n * (d + 2 ^ h)) (run (add f) plusZero x n) (run _+ℤ_ (pos 0) z n)
 unfolding run
 run-near f k h d x z zero u v few room l = record { off = pos 0; is = units false 0 (pos 0) 0 (omega arith); small = omega arith }
 run-near f k h d x z (suc n) u v few room l =
@@ -203,16 +225,14 @@ run-near f k h d x z (suc n) u v few room l =
     (omega arith) room (le-trans (omega arith) l))
     (omega arith)
 
--- ---- a float is one number of units at most, and the order of floats is that of their units
-pub units-once : {j : ℕ} {x : Float} {a b : ℤ} → Units j x a → Units j x b → a ≡ b
-units-once (units s m e k p) (units _ _ _ l q) = ap (signed s) (eq-of-mul-eq-mul-right (down e) (down-pos e) k l (sym p ∙ q))
-
+-- ---- the order of floats is that of their units
 pub lt-units : {j : ℕ} {x y : Float} {a b : ℤ} → Units j x a → Units j y b → lt x y ≡ ltZ a b
 unfolding lt
 lt-units {j} (units s m e k p) (units t n d l q) =
     let c = down e * down d in
     sym (below-scale s t (m * up e * down d) (n * up d * down e) (2 ^ j) (pow-pos j))
-    ∙ ap₂ (λ (x y : ℕ). below s x t y) (mul-right-comm (m * up e) (down d) (2 ^ j) ∙ left (m * up e * 2 ^ j) k (down e) (down d) p) (mul-right-comm (n * up d) (down e) (2 ^ j) ∙ right (n * up d * 2 ^ j) l (down e) (down d) q)
+    ∙ ap₂ (λ (x y : ℕ). below s x t y) (mul-right-comm (m * up e) (down d) (2 ^ j) ∙ left (m * up e * 2 ^ j) k (down e) (down d) p)
+    (mul-right-comm (n * up d) (down e) (2 ^ j) ∙ right (n * up d * 2 ^ j) l (down e) (down d) q)
     ∙ below-scale s t k l c (mul-pos (down-pos e) (down-pos d))
     ∙ below-is s t k l
 
@@ -228,17 +248,24 @@ units-grid {j} {x} g = go x (g .finite) (g .count) (g .size)
     go : (x : Float) → T (finite x) → (n : ℕ) → num x * 2 ^ j ≡ n * den x → Units j x (inUnits j x)
     go nan F n h = absurd F
     go (inf s) F n h = absurd F
-    go (fin s m e) F n h = units s m e (m * up e * 2 ^ j / down e) (h ∙ ap (λ (k : ℕ). k * down e) (sym (ap (λ (k : ℕ). k / down e) h ∙ mul-div-cancel n (down-pos e))))
+    go (fin s m e) F n h =
+        units s m e (m * up e * 2 ^ j / down e) (h ∙ ap (λ (k : ℕ). k * down e) (sym (ap (λ (k : ℕ). k / down e) h ∙ mul-div-cancel n (down-pos e))))
 
 -- a whole number is 2 ^ j times as many
 pub units-whole : (j : ℕ) {x : Float} {z : ℤ} → Whole x z → Units j x (pos (2 ^ j) *ℤ z)
 units-whole j (whole s m e k p) =
-    subst (λ (z : ℤ). Units j (fin s m e) z) (sym (times-signed (2 ^ j) s k)) (units s m e (2 ^ j * k) (ap (λ (n : ℕ). n * 2 ^ j) p ∙ mul-right-comm k (down e) (2 ^ j) ∙ ap (λ (n : ℕ). n * down e) (mul-comm k (2 ^ j))))
+    subst (λ (z : ℤ). Units j (fin s m e) z) (sym (times-signed (2 ^ j) s k))
+    (units s m e (2 ^ j * k) (ap (λ (n : ℕ). n * 2 ^ j) p ∙ mul-right-comm k (down e) (2 ^ j) ∙ ap (λ (n : ℕ). n * down e) (mul-comm k (2 ^ j))))
 
 -- and a size in units is the size
 pub upto-units : {j : ℕ} {x : Float} {z : ℤ} (n k : ℕ) → Units j x z → natAbs z ≤ n * 2 ^ (k + j) → Upto n k x
 upto-units {j} n k (units s m e i p) h =
-    record { finite = tt; size = le-of-mul-le-mul-right (cut (m * up e) i (down e) (2 ^ k) (2 ^ j) p (subst (λ (w : ℕ). i ≤ n * w) (pow-add 2 k j) (le-trans (le-of-eq (sym (abs-signed s i))) h))) (pow-pos j) }
+    record {
+      finite = tt;
+      size = le-of-mul-le-mul-right
+          (cut (m * up e) i (down e) (2 ^ k) (2 ^ j) p (subst (λ (w : ℕ). i ≤ n * w) (pow-add 2 k j) (le-trans (le-of-eq (sym (abs-signed s i))) h)))
+          (pow-pos j);
+    }
   where
     cut : (a i d w v : ℕ) → a * v ≡ i * d → i ≤ n * (w * v) → a * v ≤ n * w * d * v
     cut a i d w v p h = omega (arith, mul-le-mul-right d h)

@@ -1,5 +1,6 @@
--- A float between two others, in Rust's own order; the larger of two, and a value held between two ends, as code writes them.
--- Beside it the tests that a rule asks of the ends: at literals each computes to true, and `tt` proves it. Definitions only. Assumes nothing.
+-- A float between two others, in Rust's own order; the larger of two, and a value held between two ends, as code writes
+-- them. Beside it the tests that a rule asks of the ends: at literals each computes to true, and `tt` proves it.
+-- Definitions only. Assumes nothing.
 use mathlib.Core.Bool.{Bool, _&&_, cond}
 use lib.Dec.{T}
 use lib.Ieee.{Float, Format, add, sub, mul, div, lt, le}
@@ -34,8 +35,12 @@ okSub f a b c d l h = four (finite a) (finite b) (finite c) (finite d) && (le l 
 
 -- by the four corners, so one rule for all signs
 abbrev pub okMul : Format → Float → Float → Float → Float → Float → Float → Bool
-okMul f a b c d l h = four (finite a) (finite b) (finite c) (finite d) && four (inside l h (mul f c a)) (inside l h (mul f d a)) (inside l h (mul f c b)) (inside l h (mul f d b))
+okMul f a b c d l h =
+    four (finite a) (finite b) (finite c) (finite d)
+    && four (inside l h (mul f c a)) (inside l h (mul f d a)) (inside l h (mul f c b)) (inside l h (mul f d b))
 
 -- the divisor's range lies above zero
 abbrev pub okDiv : Format → Float → Float → Float → Float → Float → Float → Bool
-okDiv f a b c d l h = four (finite a) (finite b) (positive c) (positive d) && four (inside l h (div f a c)) (inside l h (div f a d)) (inside l h (div f b c)) (inside l h (div f b d))
+okDiv f a b c d l h =
+    four (finite a) (finite b) (positive c) (positive d)
+    && four (inside l h (div f a c)) (inside l h (div f a d)) (inside l h (div f b c)) (inside l h (div f b d))

@@ -1,4 +1,2 @@
 -- Laws for this crate's own proofs.
-mod HeaderFaces
-mod Lists
-pub mod TrackFaces
+mod Faces

@@ -1,5 +1,5 @@
--- A metric's five terms lie in the symbol's rows; their sum, of terms that are values of f32 and bounded, is bounded, finite and never -0.0.
--- Assumes nothing.
+-- A metric's five terms lie in the symbol's rows; their sum, of terms that are values of f32 and bounded, is bounded,
+-- finite and never -0.0. Assumes nothing.
 use Prim.Native.Nat.{ℕ, _+_, _*_, _-_, _≤_, _<_}
 use mathlib.Core.Path.{_≡_}
 use native.Mathlib.Omega.{arith}

@@ -41,7 +41,7 @@ fn out_of_range(t: f32) -> bool
     true
 }
 
-// Whether some term is.
+// Inside: whether some term is not finite or beyond ±1,000,000 (refusal 6).
 pub fn some_out(terms: &[f32]) -> bool
     ensures { λ r. ⌜ r ≡ someOut (now (terms .entry)) ⌝ }
 {

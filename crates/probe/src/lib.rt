@@ -1,10 +1,14 @@
 // Doors to parts that serve inside, as C functions: oracle/ holds them against the Rust, and the program `vectors` replays
 // recorded answers through them. Where there is no answer a door gives 2^32. The entries have the face, crate `ion`.
 ghost use mathlib.Core.Path.{_≡_};
+ghost use lib.Dec.{ltb};
+ghost use Rattle.util.specs.Choose.{choose};
 ghost use Rattle.util.specs.SplitMix.{firstOutput};
 ghost use Rattle.util.specs.Gray.{grayOf};
-ghost use Rattle.frame.specs.Format.{formatOf};
-ghost use Rattle.frame.specs.Air.{hopOf, scrambleOf, symScrambleOf};
+ghost use Rattle.frame.specs.Format.{formatOf, headerBits, listed};
+ghost use Rattle.frame.specs.Air.{hopOf, binOf, slotOf};
+ghost use Rattle.interleave.specs.Interleave.{scrambleOf, symScrambleOf};
+ghost use Rattle.lse.specs.Lse.{expOf, ln1pOf};
 
 #[no_mangle]
 pub extern "C" fn probe_mix64(seed: u64) -> u64
@@ -29,7 +33,9 @@ pub extern "C" fn probe_hop(mode: u8, i: u64) -> u64
 
 // The bin of a value below 32 in header or data symbol i.
 #[no_mangle]
-pub extern "C" fn probe_bin(mode: u8, i: u64, v: u8) -> u64 {
+pub extern "C" fn probe_bin(mode: u8, i: u64, v: u8) -> u64
+    ensures { λ r. ⌜ r ≡ choose (ltb v 32) (binOf (formatOf mode .bins) (hopOf (formatOf mode .bins) i) v) 0x1_0000_0000 ⌝ }
+{
     if v > 31 {
         return 0x1_0000_0000;
     }
@@ -41,18 +47,21 @@ pub extern "C" fn probe_bin(mode: u8, i: u64, v: u8) -> u64 {
 pub extern "C" fn probe_scramble(p: u64) -> u64
     ensures { λ r. ⌜ r ≡ scrambleOf p ⌝ }
 {
-    frame::scramble(p)
+    interleave::scramble(p)
 }
 
 #[no_mangle]
 pub extern "C" fn probe_sym_scramble(p: u64) -> u64
     ensures { λ r. ⌜ r ≡ symScrambleOf p ⌝ }
 {
-    frame::sym_scramble(p)
+    interleave::sym_scramble(p)
 }
 
+// The header slot of step j.
 #[no_mangle]
-pub extern "C" fn probe_header_slot(kind: u8, j: u64) -> u64 {
+pub extern "C" fn probe_header_slot(kind: u8, j: u64) -> u64
+    ensures { λ r. ⌜ r ≡ choose (ltb j (headerBits kind)) (slotOf (headerBits kind) j) 0x1_0000_0000 ⌝ }
+{
     if j < frame::header_symbols(kind) {
         frame::header_slot(kind, j)
     } else {
@@ -76,16 +85,22 @@ pub extern "C" fn probe_symbol(mode: u8) -> u64
 
 // 1 where the window is one of the mode's, else 0.
 #[no_mangle]
-pub extern "C" fn probe_has_window(mode: u8, window: u32) -> u64 {
+pub extern "C" fn probe_has_window(mode: u8, window: u32) -> u64
+    ensures { λ r. ⌜ r ≡ choose (listed window (formatOf mode .windows)) 1 0 ⌝ }
+{
     frame::has_window(mode, window) as u64
 }
 
 #[no_mangle]
-pub extern "C" fn probe_exp(t: f32) -> f32 {
-    soft::exp(t)
+pub extern "C" fn probe_exp(t: f32) -> f32
+    ensures { λ r. ⌜ r ≡ expOf t ⌝ }
+{
+    lse::exp(t)
 }
 
 #[no_mangle]
-pub extern "C" fn probe_ln_1p(u: f32) -> f32 {
-    soft::ln_1p(u)
+pub extern "C" fn probe_ln_1p(u: f32) -> f32
+    ensures { λ r. ⌜ r ≡ ln1pOf u ⌝ }
+{
+    lse::ln_1p(u)
 }

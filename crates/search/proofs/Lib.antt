@@ -1,7 +1,5 @@
 -- Laws between areas and the definitions of crate trellis, for this crate's own proofs and the header read's.
-mod Fill
-mod Bits
-mod Steps
+pub mod Lengths
 mod Tracing
 pub mod Passes
 mod Rounds

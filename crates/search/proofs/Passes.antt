@@ -7,15 +7,16 @@ use native.Mathlib.Omega.{arith}
 use lib.Dec.{eqb, lit≤}
 use lib.Ieee.{Float, sub, binary32}
 use Rattle.trellis.specs.Scale.{Scale, highest}
-use Rattle.trellis.specs.Search.{Candidate, traceStart, traceWord, final, endState, startOf, wordOf, closes, scoreOf, candidates}
+use Rattle.trellis.specs.Trellis.{Trellis}
+use Rattle.trellis.specs.Search.{Candidate, traceStart, traceWord, decision, final, endState, startOf, wordOf, closes, scoreOf, candidates}
 use Rattle.trellis.specs.Numbers.{single}
 use Rattle.trellis.proofs.Paths.{trace-start-cong, trace-word-cong}
 use Rattle.trellis.proofs.Alike.{Follows, Alike, final-alike, decision-alike, end-alike, word-alike, closes-alike, score-alike}
 use Rattle.trellis.proofs.Best.{highest-lt}
-use Rattle.search.specs.Areas.{table, stepsIn, over, packed, Ran}
+use Rattle.pass.specs.Areas.{table, stepsIn, over, packed, Ran}
 use Rattle.search.specs.Scan.{considered, scanned}
 use Rattle.search.specs.Passed.{Passed}
-use Rattle.search.proofs.Steps.{highest-same}
+use Rattle.pass.proofs.Steps.{highest-same}
 use Rattle.search.specs.declared.Traceback.{Traceback}
 
 -- the simulation law at equality, where no size counts
@@ -31,7 +32,7 @@ same S =
     }
 
 -- the traceback over the packed decisions of a pass is the pass's own
-module _ (metrics : List Float) (f : ℕ → Float) {ends : List Float} {d : List ℕ} (ran : Ran metrics f (stepsIn metrics) ends d) where
+module _ (metrics : List Float) (f : ℕ → Float) {scores : List Float} {d : List ℕ} (ran : Ran metrics f (stepsIn metrics) scores d) where
   pub start-same : (s : ℕ) → s < 16384 → traceStart 16384 (packed d) (stepsIn metrics) s ≡ startOf (over metrics) f s
   start-same s h = trace-start-cong refl (stepsIn metrics) (λ j t l k. ran .decided .at j l t k) (stepsIn metrics) s (omega arith) h
 
@@ -40,24 +41,25 @@ module _ (metrics : List Float) (f : ℕ → Float) {ends : List Float} {d : Lis
 
   -- and so are its candidates
   pub scanned-same : (start : List Float) → ((s : ℕ) → s < 16384 → table start s ≡ f s) → (best : Option (Candidate Float)) (k : ℕ) → k ≤ 16384
-      → scanned (packed d) (stepsIn metrics) (table ends) (table start) best k ≡ candidates (over metrics) f best k
+      → scanned (packed d) (stepsIn metrics) (table scores) (table start) best k ≡ candidates (over metrics) f best k
   unfolding scanned considered candidates
   scanned-same start e best zero h = refl
   scanned-same start e best (suc k) h =
       let ih = scanned-same start e best k (omega arith) in
-      let gain : sub binary32 (table ends k) (table start k) ≡ sub binary32 (final (over metrics) f k) (f k) = ap₂ (sub binary32) (ran .held .at k h) (e k h) in
+      let gain : sub binary32 (table scores k) (table start k) ≡ sub binary32 (final (over metrics) f k) (f k) =
+      ap₂ (sub binary32) (ran .held .at k h) (e k h) in
       cc (start-same k h, word-same k h)
 
 -- what `found_by` reads off the areas
-pub passed : (metrics : List Float) (start ends : List Float) (d : List ℕ) (end word reached : ℕ)
-    → Ran metrics (table start) (stepsIn metrics) ends d → end ≡ highest single (table ends) 16384 → end < 16384
+pub passed : (metrics : List Float) (start scores : List Float) (d : List ℕ) (end word reached : ℕ)
+    → Ran metrics (table start) (stepsIn metrics) scores d → end ≡ highest single (table scores) 16384 → end < 16384
     → word ≡ traceWord 16384 (packed d) (stepsIn metrics) end → reached ≡ traceStart 16384 (packed d) (stepsIn metrics) end
-    → Passed metrics (table start) ends d
-    (record { word = word; score = sub binary32 (table ends end) (table start reached); closed = eqb reached end; top = table ends end })
-passed metrics start ends d end word reached ran e below w r =
+    → Passed metrics (table start) scores d
+    (record { word = word; score = sub binary32 (table scores end) (table start reached); closed = eqb reached end; top = table scores end })
+passed metrics start scores d end word reached ran e below w r =
     let f = table start in
-    let at-end : end ≡ endState (over metrics) f = e ∙ highest-same single (table ends) (final (over metrics) f) 16384 (ran .held .at) in
-    let last : table ends end ≡ final (over metrics) f end = ran .held .at end below in
+    let at-end : end ≡ endState (over metrics) f = e ∙ highest-same single (table scores) (final (over metrics) f) 16384 (ran .held .at) in
+    let last : table scores end ≡ final (over metrics) f end = ran .held .at end below in
     let started : reached ≡ startOf (over metrics) f end = r ∙ start-same metrics f ran end below in
     record {
       ran = ran;
@@ -71,31 +73,47 @@ passed metrics start ends d end word reached ran e below w r =
 
 module _ (metrics : List Float) {f g : ℕ → Float} (agree : (s : ℕ) → s < 16384 → f s ≡ g s) where
   -- the laws of simulation, with this trellis on both sides
-  start-alike : Alike (same single) 16384 (stepsIn metrics) 0 refl (lit≤ tt) (over metrics .earn) (over metrics .earn) (λ j r h k. refl) 0 f g
+  abbrev X : Trellis Float
+  X = over metrics
+
+  start-alike : Alike (same single) 16384 (X .steps) 0 refl (lit≤ tt) (X .earn) (X .earn) (λ j r h k. refl) 0 f g
   start-alike = record { at = agree }
 
-  room : (0 + stepsIn metrics * 0) + (0 + stepsIn metrics * 0) ≤ 0
+  room : (0 + X .steps * 0) + (0 + X .steps * 0) ≤ 0
   room = omega arith
 
-  pub ran-same : {ends : List Float} {d : List ℕ} → Ran metrics f (stepsIn metrics) ends d → Ran metrics g (stepsIn metrics) ends d
+  final-same : (s : ℕ) → s < 16384 → final X f s ≡ final X g s
+  final-same s h = final-alike (same single) 16384 (X .steps) 0 refl (lit≤ tt) (X .earn) (X .earn) (λ j r h k. refl) start-alike room .at s h
+
+  decision-same : (j s : ℕ) → j < X .steps → s < 16384 → decision X f j s ≡ decision X g j s
+  decision-same = decision-alike (same single) 16384 (X .steps) 0 refl (lit≤ tt) (X .earn) (X .earn) (λ j r h k. refl) start-alike room
+
+  end-same : endState X f ≡ endState X g
+  end-same = end-alike (same single) 16384 (X .steps) 0 refl (lit≤ tt) (X .earn) (X .earn) (λ j r h k. refl) start-alike room
+
+  traced-same : (s : ℕ) → s < 16384 → wordOf X f s ≡ wordOf X g s
+  traced-same = word-alike (same single) 16384 (X .steps) 0 refl (lit≤ tt) (X .earn) (X .earn) (λ j r h k. refl) start-alike room
+
+  score-same : (s : ℕ) → s < 16384 → scoreOf X f s ≡ scoreOf X g s
+  score-same = score-alike (same single) 16384 (X .steps) 0 refl (lit≤ tt) (X .earn) (X .earn) (λ j r h k. refl) start-alike room
+
+  closes-same : (s : ℕ) → s < 16384 → closes X f s ≡ closes X g s
+  closes-same = closes-alike (same single) 16384 (X .steps) 0 refl (lit≤ tt) (X .earn) (X .earn) (λ j r h k. refl) start-alike room
+
+  pub ran-same : {scores : List Float} {d : List ℕ} → Ran metrics f (stepsIn metrics) scores d → Ran metrics g (stepsIn metrics) scores d
   ran-same ran =
-      let final-same = final-alike (same single) 16384 (stepsIn metrics) 0 refl (lit≤ tt) (over metrics .earn) (over metrics .earn) (λ j r h k. refl) start-alike room in
       record {
-        held = record { size = ran .held .size; at = λ s h. ran .held .at s h ∙ final-same .at s h };
-        decided = record {
-          at = λ j h s l. ran .decided .at j h s l ∙ decision-alike (same single) 16384 (stepsIn metrics) 0 refl (lit≤ tt) (over metrics .earn) (over metrics .earn) (λ j r h k. refl) start-alike room j s h l;
-        };
+        held = record { size = ran .held .size; at = λ s h. ran .held .at s h ∙ final-same s h };
+        decided = record { at = λ j h s l. ran .decided .at j h s l ∙ decision-same j s h l };
       }
 
-  pub passed-same : {ends : List Float} {d : List ℕ} {t : Traceback} → Passed metrics f ends d t → Passed metrics g ends d t
+  pub passed-same : {scores : List Float} {d : List ℕ} {t : Traceback} → Passed metrics f scores d t → Passed metrics g scores d t
   passed-same passed =
-      let ends-same : endState (over metrics) f ≡ endState (over metrics) g = end-alike (same single) 16384 (stepsIn metrics) 0 refl (lit≤ tt) (over metrics .earn) (over metrics .earn) (λ j r h k. refl) start-alike room in
-      let below : endState (over metrics) f < 16384 = highest-lt single (final (over metrics) f) 16384 (lit≤ tt) in
-      let final-same = final-alike (same single) 16384 (stepsIn metrics) 0 refl (lit≤ tt) (over metrics .earn) (over metrics .earn) (λ j r h k. refl) start-alike room in
+      let below : endState X f < 16384 = highest-lt single (final X f) 16384 (lit≤ tt) in
       record {
         ran = ran-same (passed .ran);
-        word = passed .word ∙ word-alike (same single) 16384 (stepsIn metrics) 0 refl (lit≤ tt) (over metrics .earn) (over metrics .earn) (λ j r h k. refl) start-alike room _ below ∙ ap (wordOf (over metrics) g) ends-same;
-        score = passed .score ∙ score-alike (same single) 16384 (stepsIn metrics) 0 refl (lit≤ tt) (over metrics .earn) (over metrics .earn) (λ j r h k. refl) start-alike room _ below ∙ ap (scoreOf (over metrics) g) ends-same;
-        closed = passed .closed ∙ closes-alike (same single) 16384 (stepsIn metrics) 0 refl (lit≤ tt) (over metrics .earn) (over metrics .earn) (λ j r h k. refl) start-alike room _ below ∙ ap (closes (over metrics) g) ends-same;
-        top = passed .top ∙ final-same .at _ below ∙ ap (final (over metrics) g) ends-same;
+        word = passed .word ∙ traced-same _ below ∙ ap (wordOf X g) end-same;
+        score = passed .score ∙ score-same _ below ∙ ap (scoreOf X g) end-same;
+        closed = passed .closed ∙ closes-same _ below ∙ ap (closes X g) end-same;
+        top = passed .top ∙ final-same _ below ∙ ap (final X g) end-same;
       }

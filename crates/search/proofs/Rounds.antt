@@ -1,6 +1,6 @@
 -- The loop over the passes: what holds as a pass begins, and what a pass that closes, or the third, makes of it. Assumes nothing.
 use Prim.Native.Nat.{ℕ, zero, suc, _≤_, _<_}
-use mathlib.Core.Bool.{Bool, true, false}
+use mathlib.Core.Bool.{true, false}
 use mathlib.Core.List.{List}
 use mathlib.Core.Option.{Option, none, some}
 use mathlib.Core.Path.{_≡_, refl, sym, ap, ap₂, _∙_}
@@ -10,41 +10,43 @@ use borrow.Author.Count.{below-more}
 use lib.Ieee.{Float, nan, sub, binary32}
 use lib.ListN.{length, replicate, length-replicate, getD-replicate}
 use Rattle.util.specs.Choose.{choose}
+use Rattle.util.proofs.Choose.{chosen, not-chosen}
 use Rattle.ieee.specs.Whole.{plusZero}
 use Rattle.trellis.specs.Trellis.{Trellis}
 use Rattle.trellis.specs.Search.{closing, unclosed, Candidate, begin, closesIn, last, best, candidates, wordIn, settled, search}
-use Rattle.search.specs.Areas.{table, stepsIn, over, packed, Lent}
+use Rattle.pass.specs.Areas.{table, stepsIn, over, packed}
+use Rattle.search.specs.Lent.{Lent}
 use Rattle.search.specs.Scan.{scanned}
 use Rattle.search.specs.Passed.{Passed}
-use Rattle.search.specs.Found.{kept, settledBy}
+use Rattle.search.specs.Found.{bestIs, bestOrLast}
 use Rattle.search.specs.declared.Best.{Best}
 use Rattle.search.specs.declared.Best.the-variants.{Nothing}
 use Rattle.search.specs.declared.Traceback.{Traceback}
 use Rattle.search.proofs.Passes.{passed-same, scanned-same}
 
 -- pass k, counted from 0, is about to begin
-pub record Begun (metrics ends second start : List Float) (decisions : List ℕ) (b : Best) (k : ℕ) : Type 0 where
-  pub lent : Lent metrics ends second start decisions
+pub record Begun (metrics scores next start : List Float) (decisions : List ℕ) (b : Best) (k : ℕ) : Type 0 where
+  pub lent : Lent metrics scores next start decisions
   pub few : k ≤ 2
-  pub held : (s : ℕ) → s < 16384 → table ends s ≡ begin (over metrics) k s
-  pub so-far : kept b ≡ best (over metrics) k
+  pub held : (s : ℕ) → s < 16384 → table scores s ≡ begin (over metrics) k s
+  pub so-far : bestIs b ≡ best (over metrics) k
   pub unclosed : (i : ℕ) → i < k → closesIn (over metrics) i ≡ false
 
 -- the first pass begins with all scores at 0.0
-pub first : {metrics ends second start zeros : List Float} {decisions : List ℕ} → Lent metrics ends second start decisions
-    → zeros ≡ replicate (length ends) plusZero → Begun metrics zeros second start decisions Nothing 0
+pub first : {metrics scores next start zeros : List Float} {decisions : List ℕ} → Lent metrics scores next start decisions
+    → zeros ≡ replicate (length scores) plusZero → Begun metrics zeros next start decisions Nothing 0
 unfolding begin best
-first {metrics} {ends} lent e =
+first {metrics} {scores} lent e =
     record {
       lent = record {
         steps = lent .steps;
-        of-ends = ap length e ∙ length-replicate (length ends) plusZero ∙ lent .of-ends;
-        of-second = lent .of-second;
+        of-scores = ap length e ∙ length-replicate (length scores) plusZero ∙ lent .of-scores;
+        of-next = lent .of-next;
         of-start = lent .of-start;
         of-decisions = lent .of-decisions;
       };
       few = omega arith;
-      held = λ s h. ap (λ (l : List Float). table l s) e ∙ getD-replicate (length ends) s plusZero nan (omega (arith, lent .of-ends));
+      held = λ s h. ap (λ (l : List Float). table l s) e ∙ getD-replicate (length scores) s plusZero nan (omega (arith, lent .of-scores));
       so-far = refl;
       unclosed = λ i h. absurd (not-suc-le-zero h);
     }
@@ -63,16 +65,17 @@ module _ {A : Type 0} (X : Trellis A) where
   search-closing k h unmet e =
       let l = last-closing k h unmet e in
       ap (λ (m : ℕ). choose (closesIn X m) (wordIn X (closing (suc m)) m) (settled X (best X 3))) l
-      ∙ ap (λ (t : Bool). choose t (wordIn X (closing (suc k)) k) (settled X (best X 3))) e
+      ∙ chosen (wordIn X (closing (suc k)) k) (settled X (best X 3)) e
 
   pub search-settled : ((i : ℕ) → i < 3 → closesIn X i ≡ false) → search X ≡ settled X (best X 3)
   unfolding search last
-  search-settled unmet = rw (unmet 0 (omega arith), unmet 1 (omega arith)) (ap (λ (t : Bool). choose t (wordIn X (closing 3) 2) (settled X (best X 3))) (unmet 2 (omega arith)))
+  search-settled unmet = rw (unmet 0 (omega arith), unmet 1 (omega arith))
+      (not-chosen (wordIn X (closing 3) 2) (settled X (best X 3)) (unmet 2 (omega arith)))
 
 -- a pass has run from there
-module _ {metrics ends second start : List Float} {decisions : List ℕ} {b : Best} {k : ℕ} (begun : Begun metrics ends second start decisions b k)
-    {ends′ : List Float} {decisions′ : List ℕ} {t : Traceback} (passed : Passed metrics (table ends) ends′ decisions′ t) where
-  here : Passed metrics (begin (over metrics) k) ends′ decisions′ t
+module _ {metrics scores next start : List Float} {decisions : List ℕ} {b : Best} {k : ℕ} (begun : Begun metrics scores next start decisions b k)
+    {scores′ : List Float} {decisions′ : List ℕ} {t : Traceback} (passed : Passed metrics (table scores) scores′ decisions′ t) where
+  here : Passed metrics (begin (over metrics) k) scores′ decisions′ t
   here = passed-same metrics (begun .held) passed
 
   closed-is : t .closed ≡ closesIn (over metrics) k
@@ -85,22 +88,25 @@ module _ {metrics ends second start : List Float} {decisions : List ℕ} {b : Be
       ∙ sym (search-closing (over metrics) k (begun .few) (begun .unclosed) (sym closed-is ∙ e))
 
   -- its candidates are counted in
-  pub counted : {start′ : List Float} (b′ : Best) → start′ ≡ ends
-      → kept b′ ≡ scanned (packed decisions′) (stepsIn metrics) (table ends′) (table start′) (kept b) 16384 → kept b′ ≡ best (over metrics) (suc k)
+  pub counted : {start′ : List Float} (b′ : Best) → start′ ≡ scores
+      → bestIs b′ ≡ scanned (packed decisions′) (stepsIn metrics) (table scores′) (table start′) (bestIs b) 16384
+      → bestIs b′ ≡ best (over metrics) (suc k)
   unfolding best
   counted {start′} b′ e c =
-      c ∙ scanned-same metrics (begin (over metrics) k) (here .ran) start′ (λ s h. ap (λ (l : List Float). table l s) e ∙ begun .held s h) (kept b) 16384 (omega arith)
+      c
+      ∙ scanned-same metrics (begin (over metrics) k) (here .ran) start′
+      (λ s h. ap (λ (l : List Float). table l s) e ∙ begun .held s h) (bestIs b) 16384 (omega arith)
       ∙ ap (λ (o : Option (Candidate Float)). candidates (over metrics) (begin (over metrics) k) o 16384) (begun .so-far)
 
   unclosed-too : t .closed ≡ false → (i : ℕ) → i < suc k → closesIn (over metrics) i ≡ false
   unclosed-too e i h = below-more (λ (i : ℕ). closesIn (over metrics) i ≡ false) k (begun .unclosed) (sym closed-is ∙ e) i (omega arith)
 
   -- the next pass begins
-  pub next : {second′ start′ low : List Float} (b′ : Best) → t .closed ≡ false → suc k ≤ 2 → kept b′ ≡ best (over metrics) (suc k)
-      → ((s : ℕ) → s < 16384 → table low s ≡ sub binary32 (table ends′ s) (t .top))
-      → Lent metrics low second′ start′ decisions′ → Begun metrics low second′ start′ decisions′ b′ (suc k)
+  pub next-begins : {next′ start′ low : List Float} (b′ : Best) → t .closed ≡ false → suc k ≤ 2 → bestIs b′ ≡ best (over metrics) (suc k)
+      → ((s : ℕ) → s < 16384 → table low s ≡ sub binary32 (table scores′ s) (t .top))
+      → Lent metrics low next′ start′ decisions′ → Begun metrics low next′ start′ decisions′ b′ (suc k)
   unfolding begin
-  next b′ e h c lowers lent =
+  next-begins b′ e h c lowers lent =
       record {
         lent = lent;
         few = h;
@@ -110,16 +116,17 @@ module _ {metrics ends second start : List Float} {decisions : List ℕ} {b : Be
       }
 
   -- or three passes are over
-  pub over-all : (b′ : Best) → t .closed ≡ false → k ≡ 2 → kept b′ ≡ best (over metrics) (suc k) → settledBy (kept b′) (t .word) (t .score) ≡ search (over metrics)
+  pub over-all : (b′ : Best) → t .closed ≡ false → k ≡ 2 → bestIs b′ ≡ best (over metrics) (suc k)
+      → bestOrLast (bestIs b′) (t .word) (t .score) ≡ search (over metrics)
   unfolding settled
   over-all b′ e two c =
       let three : best (over metrics) (suc k) ≡ best (over metrics) 3 = ap (λ (n : ℕ). best (over metrics) (suc n)) two in
-      ap (λ (o : Option (Candidate Float)). settledBy o (t .word) (t .score)) (c ∙ three) ∙ by (best (over metrics) 3)
+      ap (λ (o : Option (Candidate Float)). bestOrLast o (t .word) (t .score)) (c ∙ three) ∙ by (best (over metrics) 3)
       ∙ sym (search-settled (over metrics) (λ i h. unclosed-too e i (omega arith)))
     where
       at-two : wordIn (over metrics) unclosed k ≡ wordIn (over metrics) unclosed 2
       at-two = ap (wordIn (over metrics) unclosed) two
 
-      by : (o : Option (Candidate Float)) → settledBy o (t .word) (t .score) ≡ settled (over metrics) o
+      by : (o : Option (Candidate Float)) → bestOrLast o (t .word) (t .score) ≡ settled (over metrics) o
       by none = ap₂ (λ (w : ℕ) (x : Float). record { how = unclosed; word = w; score = x }) (here .word) (here .score) ∙ at-two
       by (some x) = refl

@@ -10,19 +10,19 @@ use Rattle.search.specs.declared.How.the-variants.{Closing, Candidate, U
 use Rattle.search.specs.declared.Found.{Found}
 
 -- the best candidate so far
-abbrev pub kept : Best → Option (Search.Candidate Float)
-kept Nothing = none
-kept (Word w g) = some (record { word = w; gain = g })
+abbrev pub bestIs : Best → Option (Search.Candidate Float)
+bestIs Nothing = none
+bestIs (Word w g) = some (record { word = w; gain = g })
 
-abbrev pub way : How → Search.How
-way (Closing pass) = Search.closing pass
-way Candidate = Search.candidate
-way Unclosed = Search.unclosed
+abbrev pub howIs : How → Search.How
+howIs (Closing pass) = Search.closing pass
+howIs Candidate = Search.candidate
+howIs Unclosed = Search.unclosed
 
-abbrev pub told : Found → Search.Found Float
-told f = record { how = way (f .how); word = f .word; score = f .score }
+abbrev pub foundIs : Found → Search.Found Float
+foundIs f = record { how = howIs (f .how); word = f .word; score = f .score }
 
 -- after the last pass: the best candidate, or else the word w with its score
-abbrev pub settledBy : Option (Search.Candidate Float) → ℕ → Float → Search.Found Float
-settledBy none w x = record { how = Search.unclosed; word = w; score = x }
-settledBy (some c) w x = record { how = Search.candidate; word = c .word; score = c .gain }
+abbrev pub bestOrLast : Option (Search.Candidate Float) → ℕ → Float → Search.Found Float
+bestOrLast none w x = record { how = Search.unclosed; word = w; score = x }
+bestOrLast (some c) w x = record { how = Search.candidate; word = c .word; score = c .gain }

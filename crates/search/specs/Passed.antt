@@ -4,12 +4,12 @@ use mathlib.Core.Path.{_≡_}
 use Prim.Native.Nat.{ℕ}
 use lib.Ieee.{Float}
 use Rattle.trellis.specs.Search.{final, endState, wordOf, scoreOf, closes}
-use Rattle.search.specs.Areas.{over, Ran, stepsIn}
+use Rattle.pass.specs.Areas.{over, Ran, stepsIn}
 use Rattle.search.specs.declared.Traceback.{Traceback}
 
 -- from the table f: the areas as the pass leaves them, its word and score, whether it closes, and the best score
-pub record Passed (metrics : List Float) (f : ℕ → Float) (ends : List Float) (decisions : List ℕ) (p : Traceback) : Type 0 where
-  pub ran : Ran metrics f (stepsIn metrics) ends decisions
+pub record Passed (metrics : List Float) (f : ℕ → Float) (scores : List Float) (decisions : List ℕ) (p : Traceback) : Type 0 where
+  pub ran : Ran metrics f (stepsIn metrics) scores decisions
   pub word : p .word ≡ wordOf (over metrics) f (endState (over metrics) f)
   pub score : p .score ≡ scoreOf (over metrics) f (endState (over metrics) f)
   pub closed : p .closed ≡ closes (over metrics) f (endState (over metrics) f)

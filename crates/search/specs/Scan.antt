@@ -1,4 +1,5 @@
--- The candidates of a pass, over decisions d of n steps, end scores e and start scores f. `candidates` of crate trellis is this at a pass's own.
+-- The candidates of a pass, over decisions d of n steps, end scores e and start scores f. `candidates` of crate trellis
+-- is this at a pass's own.
 use Prim.Native.Nat.{ℕ, zero, suc}
 use mathlib.Core.Bool.{Bool, _&&_}
 use mathlib.Core.Option.{Option, some}

@@ -56,12 +56,15 @@ module _ (a : Asked) where
       (sym e, (area, (values, bits)))
 
   -- an answer leaves in them what was made
-  pub done : (n b : ℕ) (w m s : List Float) → softAnswer a ≡ accepted tt → n ≡ symbolsOf (a .bits) → b ≡ a .bits → w ≡ replicate (length (a .work)) plusZero → Made (a .symbols) (valuesOf a) n b m s
+  pub done : (n b : ℕ) (w m s : List Float) → softAnswer a ≡ accepted tt → n ≡ symbolsOf (a .bits) → b ≡ a .bits
+      → w ≡ replicate (length (a .work)) plusZero → Made (a .symbols) (valuesOf a) n b m s
       → (_≡_ {A = Outcome Unit} (accepted tt) (softAnswer a)) × ((w ≡ workAfter a) × ((m ≡ metricsAfter a) × (s ≡ softAfter a)))
   done n b w m s e p q z made =
       let area = z ∙ ap (λ (o : Outcome Unit). afterwards o (a .work) (replicate (length (a .work)) plusZero)) (sym e) in
-      let values = made .all ∙ ap (λ (n : ℕ). metricsOut (a .symbols) n (valuesOf a)) p ∙ ap (λ (o : Outcome Unit). afterwards o (a .metrics) (metricsOut (a .symbols) (symbolsOf (a .bits)) (valuesOf a))) (sym e) in
-      let bits = made .cut ∙ ap₂ (λ (n b : ℕ). softOut (a .symbols) n b (valuesOf a)) p q ∙ ap (λ (o : Outcome Unit). afterwards o (a .soft) (softOut (a .symbols) (symbolsOf (a .bits)) (a .bits) (valuesOf a))) (sym e) in
+      let values = made .all ∙ ap (λ (n : ℕ). metricsOut (a .symbols) n (valuesOf a)) p
+      ∙ ap (λ (o : Outcome Unit). afterwards o (a .metrics) (metricsOut (a .symbols) (symbolsOf (a .bits)) (valuesOf a))) (sym e) in
+      let bits = made .cut ∙ ap₂ (λ (n b : ℕ). softOut (a .symbols) n b (valuesOf a)) p q
+      ∙ ap (λ (o : Outcome Unit). afterwards o (a .soft) (softOut (a .symbols) (symbolsOf (a .bits)) (a .bits) (valuesOf a))) (sym e) in
       (sym e, (area, (values, bits)))
 
 -- ---- accepted: no cause holds
@@ -73,12 +76,14 @@ none-holds : {A : Type 0} (cs : List Cause) (x : A) → outcome cs x ≡ accepte
 none-holds [] x e = tt
 none-holds (c ∷ cs) x e = by (c .holds) refl e (none-holds cs x)
   where
-    by : (b : Bool) → c .holds ≡ b → choose b (refused (c .number)) (outcome cs x) ≡ accepted x → (outcome cs x ≡ accepted x → NoneHolds cs) → (c .holds ≡ false) × NoneHolds cs
+    by : (b : Bool) → c .holds ≡ b → choose b (refused (c .number)) (outcome cs x) ≡ accepted x
+        → (outcome cs x ≡ accepted x → NoneHolds cs) → (c .holds ≡ false) × NoneHolds cs
     by false q g rest = (q, rest g)
     by true q g rest = absurd (let z : _≡_ {A = ℕ} 0 1 = cc in omega arith)
 
 pub record Accepted (a : Asked) : Type 0 where
   pub few : a .bits ≤ 10240
+  pub window : listed (a .window) (formatOf (a .mode) .windows) ≡ true
   pub lengths : sized a ≡ true
   pub terms : someOut (a .terms) ≡ false
   pub counts : someOf (countOut (a .window)) (a .counts) ≡ false
@@ -86,7 +91,13 @@ pub record Accepted (a : Asked) : Type 0 where
 pub accepted-all : (a : Asked) → softAnswer a ≡ accepted tt → Accepted a
 accepted-all a e =
     let all = none-holds (causes a) tt e in
-    record { few = ltb-false 10240 (a .bits) (all .1 .0); lengths = not-false _ (all .1 .1 .1 .0); terms = all .1 .1 .1 .1 .0; counts = all .1 .1 .1 .1 .1 .0 }
+    record {
+      few = ltb-false 10240 (a .bits) (all .1 .0);
+      window = not-false _ (all .1 .1 .0);
+      lengths = not-false _ (all .1 .1 .1 .0);
+      terms = all .1 .1 .1 .1 .0;
+      counts = all .1 .1 .1 .1 .1 .0;
+    }
 
 -- what the fourth test leaves: the lengths of one burst
 module _ (bits t c w m s : ℕ) (e : sizes (symbolsOf bits) bits t c w m s ≡ true) where

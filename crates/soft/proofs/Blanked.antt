@@ -1,6 +1,6 @@
--- An erased symbol's terms reach no answer but refusal 6: two bursts that are both accepted and differ only in such terms have the same values, so the same answer and the same lists.
--- Assumes nothing.
-use Prim.Native.Nat.{ℕ, zero, suc, _+_, _*_, _-_, _≤_, _<_}
+-- An erased symbol's terms reach no answer but refusal 6: two bursts that are both accepted and differ only in such terms have
+-- the same values, so the same answer and the same lists. Assumes nothing.
+use Prim.Native.Nat.{ℕ, _+_, _*_, _-_, _≤_, _<_}
 use mathlib.Core.Bool.{Bool, true, false}
 use mathlib.Core.List.{List}
 use mathlib.Core.Logic.{⊎-elim}
@@ -13,29 +13,26 @@ use Rattle.util.proofs.Fill.{below-or-not}
 use Rattle.frame.specs.Format.{formatOf, headerBits}
 use Rattle.frame.specs.Air.{hopOf, binOf, placeOf}
 use Rattle.frame.proofs.Air.{bins-some, bins-most}
-use Rattle.ieee.specs.Whole.{plusZero, run}
+use Rattle.ieee.specs.Whole.{plusZero}
+use Rattle.ieee.proofs.Folds.{run-same}
 use Rattle.model.specs.Metric.{metricOf}
 use Rattle.model.proofs.Terms.{place-in-row}
-use Rattle.soft.specs.Symbol.{erasedOf}
-use Rattle.soft.specs.Burst.{symbolsOf, heard, metricsOut, softOut}
+use Rattle.symbol.specs.Symbol.{erasedOf}
+use Rattle.soft.specs.Burst.{symbolsOf, received, metricsOut, softOut}
 use Rattle.soft.specs.Entry.{Asked, asked, softAnswer, valuesOf, metricsAfter, softAfter, workAfter}
-use Rattle.soft.proofs.Same.{value-erased, value-kept}
+use Rattle.soft.proofs.Ways.{value-erased, value-kept}
 use Rattle.soft.proofs.Answer.{accepted-all, lengths-are}
 
 -- the same burst with other terms
 abbrev pub withTerms : Asked → List Float → Asked
 withTerms a terms = asked (a .mode) (a .kind) (a .symbols) (a .window) (a .bits) terms (a .counts) (a .work) (a .metrics) (a .soft)
 
--- a sum of equal terms
-run-same : {A : Type 0} (op : A → A → A) (s : A) (x y : ℕ → A) (n : ℕ) → ((i : ℕ) → i < n → x i ≡ y i) → run op s x n ≡ run op s y n
-unfolding run
-run-same op s x y zero e = refl
-run-same op s x y (suc n) e = ap₂ op (run-same op s x y n (λ i h. e i (omega arith))) (e n (omega arith))
-
 module _ (a : Asked) (terms : List Float) (one : softAnswer a ≡ accepted tt) (two : softAnswer (withTerms a terms) ≡ accepted tt)
-    (same : (i : ℕ) → i < symbolsOf (a .bits) → erasedOf 7 (a .window) (getD (a .counts) i 0) ≡ false → (j : ℕ) → j < 260 → getD (a .terms) (260 * i + j) nan ≡ getD terms (260 * i + j) nan) where
+    (same : (i : ℕ) → i < symbolsOf (a .bits) → erasedOf 7 (a .window) (getD (a .counts) i 0) ≡ false → (j : ℕ) → j < 260
+    → getD (a .terms) (260 * i + j) nan ≡ getD terms (260 * i + j) nan) where
   -- past the end both have no term
-  term-same : (i : ℕ) → erasedOf 7 (a .window) (getD (a .counts) i 0) ≡ false → (j : ℕ) → j < 260 → getD (a .terms) (260 * i + j) nan ≡ getD terms (260 * i + j) nan
+  term-same : (i : ℕ) → erasedOf 7 (a .window) (getD (a .counts) i 0) ≡ false → (j : ℕ) → j < 260
+      → getD (a .terms) (260 * i + j) nan ≡ getD terms (260 * i + j) nan
   term-same i kept j h =
       let p : length (a .terms) ≡ 260 * symbolsOf (a .bits) = lengths-are (a .bits) _ _ _ _ _ (accepted-all a one .lengths) .0 in
       let q : length terms ≡ 260 * symbolsOf (a .bits) = lengths-are (a .bits) _ _ _ _ _ (accepted-all (withTerms a terms) two .lengths) .0 in
@@ -64,11 +61,12 @@ module _ (a : Asked) (terms : List Float) (one : softAnswer a ≡ accepted tt) (
       hop = hopOf bins (headerBits (a .kind) + i)
 
       by : (t : Bool) → erasedOf 7 (a .window) (getD (a .counts) i 0) ≡ t → valuesOf a i v ≡ valuesOf (withTerms a terms) i v
-      by true q = value-erased (heard (a .mode) (a .kind) (a .window) (a .terms) (a .counts)) i v q ∙ sym (value-erased (heard (a .mode) (a .kind) (a .window) terms (a .counts)) i v q)
+      by true q = value-erased (received (a .mode) (a .kind) (a .window) (a .terms) (a .counts)) i v q
+          ∙ sym (value-erased (received (a .mode) (a .kind) (a .window) terms (a .counts)) i v q)
       by false q =
-          sym (value-kept (heard (a .mode) (a .kind) (a .window) (a .terms) (a .counts)) i v bins hop (headerBits (a .kind)) q refl refl refl)
+          sym (value-kept (received (a .mode) (a .kind) (a .window) (a .terms) (a .counts)) i v bins hop (headerBits (a .kind)) q refl refl refl)
           ∙ metric-kept i (placeOf (binOf bins hop v)) q (λ j l. place-in-row bins hop v j (bins-some (a .mode)) (bins-most (a .mode)) l)
-          ∙ value-kept (heard (a .mode) (a .kind) (a .window) terms (a .counts)) i v bins hop (headerBits (a .kind)) q refl refl refl
+          ∙ value-kept (received (a .mode) (a .kind) (a .window) terms (a .counts)) i v bins hop (headerBits (a .kind)) q refl refl refl
 
   values-same : valuesOf a ≡ valuesOf (withTerms a terms)
   values-same = fun-ext (λ i. fun-ext (λ v. value-same i v))

@@ -1,5 +1,5 @@
--- Both forms: what is deinterleaved out of lists that hold the metrics, or the slots' soft bits, is what the definitions say. An interleaver reads only slots that are there.
--- Assumes nothing.
+-- Both forms: what is deinterleaved out of lists that hold the metrics, or the slots' soft bits, is what the definitions say.
+-- An interleaver reads only slots that are there. Assumes nothing.
 use Prim.Native.Nat.{ℕ, _+_, _*_, _-_, _/_, _%_, _<_}
 use mathlib.Core.Bool.{Bool, true, false}
 use mathlib.Core.List.{List}
@@ -12,11 +12,12 @@ use lib.Ieee.{Float, nan, neg}
 use Rattle.util.specs.Choose.{choose}
 use Rattle.util.specs.Table.{tabled, rows}
 use Rattle.util.proofs.Fill.{tabled-length, tabled-at, tabled-same, rows-at}
-use Rattle.frame.specs.Air.{slotOf, scrambleOf, symScrambleOf, bitBack, symBack}
+use Rattle.frame.specs.Air.{slotOf}
+use Rattle.interleave.specs.Interleave.{scrambleOf, symScrambleOf, bitBack, symBack}
 use Rattle.frame.proofs.Air.{slot-within}
-use Rattle.soft.specs.Symbol.{metricOut, softBit}
+use Rattle.symbol.specs.Symbol.{metricOut, softBit}
 use Rattle.soft.specs.Burst.{symbolsOf, metricAt, softAt, metricsOut, softOut}
-use Rattle.soft.proofs.Same.{soft-same}
+use Rattle.symbol.proofs.Same.{soft-same}
 
 -- an interleaver's answer depends on the n slots alone
 bit-same : (n p : ℕ) (f g : ℕ → Float) → p < n → ((s : ℕ) → s < n → f s ≡ g s) → bitBack n f p ≡ bitBack n g p
@@ -43,15 +44,18 @@ module _ (n bits : ℕ) (values : ℕ → ℕ → Float) where
   -- metric v of symbol i, in the list
   pub made-at : (symbols : Bool) (i v : ℕ) → i < n → v < 32 → getD (metricsOut symbols n values) (32 * i + v) nan ≡ metricAt symbols n values i v
   unfolding metricsOut
-  made-at symbols i v h l = tabled-at (32 * n) (32 * i + v) (rows 32 (metricAt symbols n values)) nan (omega arith) ∙ rows-at 32 i v (metricAt symbols n values) l
+  made-at symbols i v h l = tabled-at (32 * n) (32 * i + v) (rows 32 (metricAt symbols n values)) nan (omega arith)
+      ∙ rows-at 32 i v (metricAt symbols n values) l
 
-  pub bits-made : (work soft : List Float) → symbolsOf bits ≡ n → ((q : ℕ) → q < 5 * n → getD work q nan ≡ rows 5 (λ i k. softBit true k (values i)) q)
+  pub bits-made : (work soft : List Float) → symbolsOf bits ≡ n
+      → ((q : ℕ) → q < 5 * n → getD work q nan ≡ rows 5 (λ i k. softBit true k (values i)) q)
       → soft ≡ tabled bits (bitBack (5 * n) (λ s. getD work s nan)) → soft ≡ softOut false n bits values
   unfolding softOut softAt
   bits-made work soft enough slots e =
       e ∙ tabled-same bits _ _ (λ p h. bit-same (5 * n) p (λ s. getD work s nan) (rows 5 (λ i k. softBit true k (values i))) (omega arith) slots)
 
-  pub metrics-made : (work metrics : List Float) → work ≡ metricsOut false n values → metrics ≡ tabled (32 * n) (rows 32 (symBack n (λ s v. getD work (32 * s + v) nan)))
+  pub metrics-made : (work metrics : List Float) → work ≡ metricsOut false n values
+      → metrics ≡ tabled (32 * n) (rows 32 (symBack n (λ s v. getD work (32 * s + v) nan)))
       → metrics ≡ metricsOut true n values
   unfolding metricsOut metricAt
   metrics-made work metrics w e =
@@ -65,6 +69,7 @@ module _ (n bits : ℕ) (values : ℕ → ℕ → Float) where
   unfolding softOut softAt
   soft-made metrics soft enough m e =
       e ∙ tabled-same bits _ _ (λ p h.
-      rows-same 5 n p (λ i k. softBit false (4 - k) (λ v. getD metrics (32 * i + v) nan)) (λ i k. softBit false (4 - k) (metricAt true n values i)) (omega arith) (omega arith) (omega arith)
+      rows-same 5 n p (λ i k. softBit false (4 - k) (λ v. getD metrics (32 * i + v) nan))
+      (λ i k. softBit false (4 - k) (metricAt true n values i)) (omega arith) (omega arith) (omega arith)
       (λ i k l j. soft-same (λ v. getD metrics (32 * i + v) nan) (metricAt true n values i)
       (λ v q. ap (λ (x : List Float). getD x (32 * i + v) nan) m ∙ made-at true i v l q) false (4 - k)))

@@ -2,8 +2,8 @@
 -- Assumes nothing.
 use Prim.Native.Nat.{ℕ}
 use mathlib.Core.Path.{_≡_, refl}
-use Rattle.util.specs.Refusal.{refused}
-use Rattle.util.proofs.Lowest.{NoneBelow, lowest}
+use Rattle.util.specs.Refusal.{refused, NoneBelow}
+use Rattle.util.proofs.Lowest.{lowest}
 use Rattle.soft.specs.Entry.{Asked, causes, softAnswer}
 
 pub soft-lowest : (a : Asked) (k : ℕ) → softAnswer a ≡ refused k → NoneBelow k (causes a)

@@ -1,36 +1,22 @@
--- What `exp` and `lse` are on each way of the code: the tests that the code made, as equations, and the value. Assumes nothing.
-use mathlib.Core.Path.{_≡_}
+-- The values of a symbol on each way of the code: erased, or kept. Assumes nothing.
+use Prim.Native.Nat.{ℕ, _+_}
 use mathlib.Core.Bool.{true, false}
-use lib.Ieee.{Float, binary32, add, sub, div, lt, eq}
-use Rattle.ieee.specs.Whole.{run}
-use Rattle.soft.specs.Lse.{num, minus, expStep, squared, expOf, ln1pOf, minusInfinity, joined, lseOf}
-use Prim.Native.Nat.{_-_}
+use mathlib.Core.Path.{_≡_}
+use lib.Ieee.{binary32, add}
+use Rattle.frame.specs.Format.{formatOf, headerBits}
+use Rattle.frame.specs.Air.{hopOf, binOf, placeOf}
+use Rattle.ieee.specs.Whole.{plusZero}
+use Rattle.model.specs.Metric.{metricOf}
+use Rattle.symbol.specs.Symbol.{erasedOf}
+use Rattle.soft.specs.Burst.{Received, valueOf}
 
-pub exp-low : (t : Float) → lt t (minus 16) ≡ true → expOf t ≡ num 0
-unfolding expOf
-exp-low t e = rw e
+module _ (r : Received) (i v : ℕ) where
+  pub value-erased : erasedOf 7 (r .window) (r .counts i) ≡ true → valueOf r i v ≡ plusZero
+  unfolding valueOf
+  value-erased e = rw e
 
-pub exp-high : (t : Float) → lt t (minus 16) ≡ false
-    → expOf t ≡ squared (squared (squared (squared (run (expStep (div binary32 t (num 16))) (num 1) (λ i. num (10 - i)) 10))))
-unfolding expOf
-exp-high t e = rw e
-
-module _ (a b : Float) where
-  pub lse-first : eq a minusInfinity ≡ true → lseOf a b ≡ b
-  unfolding lseOf
-  lse-first e = rw e
-
-  pub lse-second : eq a minusInfinity ≡ false → eq b minusInfinity ≡ true → lseOf a b ≡ a
-  unfolding lseOf
-  lse-second e g = rw (e, g)
-
-  -- u and v are what the two calls gave
-  pub lse-above : (u v : Float) → eq a minusInfinity ≡ false → eq b minusInfinity ≡ false → lt b a ≡ true → u ≡ expOf (sub binary32 b a) → v ≡ ln1pOf u
-      → lseOf a b ≡ add binary32 a v
-  unfolding lseOf joined
-  lse-above u v e g h p q = rw (e, g, h, q, p)
-
-  pub lse-below : (u v : Float) → eq a minusInfinity ≡ false → eq b minusInfinity ≡ false → lt b a ≡ false → u ≡ expOf (sub binary32 a b) → v ≡ ln1pOf u
-      → lseOf a b ≡ add binary32 b v
-  unfolding lseOf joined
-  lse-below u v e g h p q = rw (e, g, h, q, p)
+  pub value-kept : (bins hop head : ℕ) → erasedOf 7 (r .window) (r .counts i) ≡ false → bins ≡ formatOf (r .mode) .bins
+      → hop ≡ hopOf (formatOf (r .mode) .bins) (head + i) → head ≡ headerBits (r .kind)
+      → metricOf (add binary32) plusZero (r .terms) i (placeOf (binOf bins hop v)) ≡ valueOf r i v
+  unfolding valueOf
+  value-kept bins hop head e p q s = rw (e, p, q, s)

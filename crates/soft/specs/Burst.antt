@@ -7,32 +7,33 @@ use lib.Ieee.{Float, nan, binary32, add}
 use Rattle.util.specs.Choose.{choose}
 use Rattle.util.specs.Table.{tabled, rows}
 use Rattle.frame.specs.Format.{formatOf, headerBits}
-use Rattle.frame.specs.Air.{hopOf, binOf, placeOf, bitBack, symBack}
+use Rattle.frame.specs.Air.{hopOf, binOf, placeOf}
+use Rattle.interleave.specs.Interleave.{bitBack, symBack}
 use Rattle.ieee.specs.Whole.{plusZero}
 use Rattle.model.specs.Metric.{metricOf}
-use Rattle.soft.specs.Symbol.{erasedOf, metricOut, softBit}
+use Rattle.symbol.specs.Symbol.{erasedOf, metricOut, softBit}
 
 -- symbols = ceil(bits/5)
 abbrev pub symbolsOf : ℕ → ℕ
 symbolsOf bits = (bits + 4) / 5
 
--- what the values are made of: terms, and a blanked count for each symbol
-pub record Heard : Type 0 where
+-- what was received of a burst: terms, and a blanked count for each symbol
+pub record Received : Type 0 where
   pub mode : ℕ
   pub kind : ℕ
   pub window : ℕ
   pub terms : ℕ → Float
   pub counts : ℕ → ℕ
 
-abbrev pub heard : ℕ → ℕ → ℕ → List Float → List ℕ → Heard
-heard mode kind window terms counts = record { mode = mode; kind = kind; window = window; terms = λ i. getD terms i nan; counts = λ i. getD counts i 0 }
+abbrev pub received : ℕ → ℕ → ℕ → List Float → List ℕ → Received
+received mode kind window terms counts = record { mode = mode; kind = kind; window = window; terms = λ i. getD terms i nan; counts = λ i. getD counts i 0 }
 
 -- data symbol i has hop(header symbols + i); erased, all 32 values count 0.0
-unfoldable pub valueOf : Heard → ℕ → ℕ → Float
-valueOf h i v =
-    let bins = formatOf (h .mode) .bins in
-    choose (erasedOf 7 (h .window) (h .counts i)) plusZero
-    (metricOf (add binary32) plusZero (h .terms) i (placeOf (binOf bins (hopOf bins (headerBits (h .kind) + i)) v)))
+unfoldable pub valueOf : Received → ℕ → ℕ → Float
+valueOf r i v =
+    let bins = formatOf (r .mode) .bins in
+    choose (erasedOf 7 (r .window) (r .counts i)) plusZero
+    (metricOf (add binary32) plusZero (r .terms) i (placeOf (binOf bins (hopOf bins (headerBits (r .kind) + i)) v)))
 
 -- metric v of symbol i: bit form in slot order, symbol form through `deinterleave_sym`
 unfoldable pub metricAt : Bool → ℕ → (ℕ → ℕ → Float) → ℕ → ℕ → Float

@@ -10,7 +10,7 @@ use Rattle.util.specs.Refusal.{Cause, Outcome, refused, accepted, outcome, afte
 use Rattle.frame.specs.Format.{formatOf, named, listed}
 use Rattle.ieee.specs.Whole.{plusZero}
 use Rattle.model.specs.Range.{someOut}
-use Rattle.soft.specs.Burst.{symbolsOf, heard, valueOf, metricsOut, softOut}
+use Rattle.soft.specs.Burst.{symbolsOf, received, valueOf, metricsOut, softOut}
 use Rattle.soft.specs.declared.Soft.{Soft}
 use Rattle.soft.specs.declared.Soft.the-variants.{Done, Refused}
 
@@ -29,7 +29,18 @@ pub record Asked : Type 0 where
 
 abbrev pub asked : ℕ → ℕ → Bool → ℕ → ℕ → List Float → List ℕ → List Float → List Float → List Float → Asked
 asked mode kind symbols window bits terms counts work metrics soft =
-    record { mode = mode; kind = kind; symbols = symbols; window = window; bits = bits; terms = terms; counts = counts; work = work; metrics = metrics; soft = soft }
+    record {
+      mode = mode;
+      kind = kind;
+      symbols = symbols;
+      window = window;
+      bits = bits;
+      terms = terms;
+      counts = counts;
+      work = work;
+      metrics = metrics;
+      soft = soft;
+    }
 
 -- a blanked count above 255·window
 unfoldable pub countOut : ℕ → ℕ → Bool
@@ -62,9 +73,9 @@ causes a =
 abbrev pub softAnswer : Asked → Outcome Unit
 softAnswer a = outcome (causes a) tt
 
--- the values that were heard
+-- the values of what was received
 abbrev pub valuesOf : Asked → ℕ → ℕ → Float
-valuesOf a = valueOf (heard (a .mode) (a .kind) (a .window) (a .terms) (a .counts))
+valuesOf a = valueOf (received (a .mode) (a .kind) (a .window) (a .terms) (a .counts))
 
 -- the public entry: the lent lists. The work area ends as zeros.
 abbrev pub metricsAfter : Asked → List Float

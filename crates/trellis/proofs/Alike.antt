@@ -11,7 +11,8 @@ use Rattle.util.specs.Choose.{choose}
 use Rattle.ieee.specs.Whole.{run}
 use Rattle.trellis.specs.Scale.{Scale, sum, highest}
 use Rattle.trellis.specs.Trellis.{Trellis}
-use Rattle.trellis.specs.Search.{How, closing, Candidate, Found, brings, upper, scores, decision, final, endState, startOf, wordOf, closes, scoreOf, gainOf, beats, candidates, lowered, begin, closesIn, last, best, wordIn, settled, search}
+use Rattle.trellis.specs.Search.{How, closing, Candidate, Found, brings, upper, scores, decision, final, endState, startOf, wordOf}
+use Rattle.trellis.specs.Search.{closes, scoreOf, gainOf, beats, candidates, lowered, begin, closesIn, last, best, wordIn, settled, search}
 use Rattle.trellis.proofs.Paths.{trace-start-cong, trace-word-cong, trace-start-lt}
 use Rattle.trellis.proofs.Best.{highest-up-to, highest-lt}
 
@@ -123,7 +124,10 @@ module _ {A B : Type 0} {S : Scale A} {Z : Scale B} {R W : ℕ → A → B → T
     scores-alike zero h = record { at = λ s l. F .wider (omega arith) (start .at s l) }
     scores-alike (suc j) h =
         let ih = scores-alike j (omega arith) in
-        record { at = λ s l. choose-alike (R (b + suc j * M)) _ _ (upper-alike j h ih s l) (brings-alike j h ih (s + N) (omega arith)) (brings-alike j h ih s (omega arith)) }
+        record {
+          at = λ s l.
+              choose-alike (R (b + suc j * M)) _ _ (upper-alike j h ih s l) (brings-alike j h ih (s + N) (omega arith)) (brings-alike j h ih s (omega arith));
+        }
 
     pub decision-alike : (j s : ℕ) → j < n → s < N → decision X f j s ≡ decision Y g j s
     unfolding decision
@@ -169,7 +173,11 @@ module _ {A B : Type 0} {S : Scale A} {Z : Scale B} {R W : ℕ → A → B → T
 
     pub lowered-alike : Alike ((b + n * M) + (b + n * M)) (lowered X f) (lowered Y g)
     lowered-alike =
-        record { at = λ s l. F .sub (final-alike .at s l) (subst (λ (q : ℕ). R (b + n * M) (final X f (endState X f)) (final Y g q)) end-alike (final-alike .at _ end-lt)) room }
+        record {
+          at = λ s l.
+              F .sub (final-alike .at s l)
+              (subst (λ (q : ℕ). R (b + n * M) (final X f (endState X f)) (final Y g q)) end-alike (final-alike .at _ end-lt)) room;
+        }
 
   -- ---- the passes, of which there are three
 

@@ -1,7 +1,7 @@
 -- ANY TERMS: at f32 the steps keep the order too, since rounding does and every sum is finite. So what is proved of the first pass holds of every
 -- read that is not refused, with scores added as the receiver adds them. Assumes nothing.
 use Prim.Native.Nat.{ℕ, suc, _+_, _*_, _^_, _≤_, _<_}
-use mathlib.Core.Path.{_≡_, refl, sym, ap, _∙_, subst}
+use mathlib.Core.Path.{_≡_, sym, ap, _∙_, subst}
 use mathlib.Core.Bool.{true, false, _&&_}
 use mathlib.Core.List.{List}
 use native.Mathlib.Nat.{mul-le-mul-right}
@@ -67,7 +67,9 @@ module _ (mode kind : ℕ) (terms : List Float) (all : length terms ≡ 260 * he
             let more : 5 * j + 5 ≤ 5 * suc j = omega arith in
             record {
               held = add-fits binary32 a (earn j r);
-              upto = upto-wider (5 * suc j) 20 (add-upto binary32 (o .upto) (earn-upto j r k) (omega (arith, header-most kind)) (lit≤ tt)) (mul-le-mul-right (2 ^ 20) more);
+              upto =
+                  upto-wider (5 * suc j) 20 (add-upto binary32 (o .upto) (earn-upto j r k) (omega (arith, header-most kind)) (lit≤ tt))
+                  (mul-le-mul-right (2 ^ 20) more);
             };
         step-le = λ {j} {r} {a} {b} k l o p q.
             let e = earn-upto j r k .finite in

@@ -9,6 +9,7 @@ use native.Mathlib.Omega.{arith}
 use lib.Dec.{T}
 use Rattle.util.specs.Choose.{choose}
 use Rattle.ieee.specs.Whole.{run}
+use Rattle.ieee.proofs.Folds.{run-same}
 use Rattle.conv.specs.Encoder.{register, state, walkRegister, bit}
 use Rattle.conv.proofs.Closed.{state-below}
 use Rattle.conv.proofs.Bits.{state-cong}
@@ -103,12 +104,6 @@ module _ {A : Type 0} {X : Trellis A} {le : A → A → Type 0} {ok : ℕ → A 
 
 -- ---- a pass
 
--- a sum turns on its terms alone
-pub run-cong : {A : Type 0} (op : A → A → A) (a : A) {x y : ℕ → A} (k : ℕ) → ((i : ℕ) → i < k → x i ≡ y i) → run op a x k ≡ run op a y k
-unfolding run
-run-cong op a zero h = refl
-run-cong op a (suc k) h = ap₂ op (run-cong op a k (λ i l. h i (omega arith))) (h k (omega arith))
-
 module _ {A : Type 0} (X : Trellis A) where
   -- the score of the walk from p with the word w after j steps, counted on from a
   abbrev pub along : A → ℕ → ℕ → ℕ → A
@@ -117,7 +112,7 @@ module _ {A : Type 0} (X : Trellis A) where
   -- it turns on the first j bits alone
   along-cong : (a : A) (p v w j : ℕ) → ((i : ℕ) → i < j → bit v i ≡ bit w i) → along a p v j ≡ along a p w j
   along-cong a p v w j h =
-      run-cong (X .scale .add) a j
+      run-same (X .scale .add) a _ _ j
       (λ i l. ap (X .earn i) (ap₂ register (state-cong (X .states) p (bit v) (bit w) i (λ q k. h q (omega arith))) (h i l)))
 
   -- the table after a step holds what the register decided for brings
@@ -129,7 +124,8 @@ module _ {A : Type 0} (X : Trellis A) where
   module _ (even : X .states % 2 ≡ 0) (f : ℕ → A) where
     -- ATTAINED. The score of a state is what the walk scores that is traced back from it, counted on from its start's score.
     pub attained : (j : ℕ) {s : ℕ} → s < X .states
-        → along (f (traceStart (X .states) (decision X f) j s)) (traceStart (X .states) (decision X f) j s) (traceWord (X .states) (decision X f) j s) j ≡ scores X f j s
+        → along (f (traceStart (X .states) (decision X f) j s)) (traceStart (X .states) (decision X f) j s) (traceWord (X .states) (decision X f) j s) j
+        ≡ scores X f j s
     unfolding run scores decision traceStart before
     attained zero h = refl
     attained (suc j) {s} h =
@@ -193,4 +189,5 @@ module _ {A : Type 0} (X : Trellis A) {le : A → A → Type 0} {ok : ℕ → A 
     pub end-greatest : {p : ℕ} → p < X .states → (w : ℕ) → le (along X (f p) p w (X .steps)) (final X f (endState X f))
     end-greatest {p} h w =
         L .le-trans (no-walk-above h w (X .steps) (omega arith))
-        (highest-le L (final X f) (X .states) (record { at = λ s k. scores-ok (X .steps) (omega arith) k }) (state-below (bit w) (bit-lt w) (X .states) p (X .steps) h))
+        (highest-le L (final X f) (X .states) (record { at = λ s k. scores-ok (X .steps) (omega arith) k })
+        (state-below (bit w) (bit-lt w) (X .states) p (X .steps) h))

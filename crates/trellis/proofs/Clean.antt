@@ -106,7 +106,9 @@ module _ (bins : ℕ) (least : 32 ≤ bins) (most : bins ≤ 48) where
 
   metric-none : (s v : ℕ) → v < 32 → (v ≡ 0 → ⊥) → metric whole bins (clean bins) s v ≡ pos 0
   metric-none s v l off =
-      metric-row s v ∙ rw (ne-eqb (104 + placeIn bins s v) (104 + placeIn bins s 0) (λ e. off (bins-differ bins (hopOf bins s) v 0 (omega arith) (omega arith) (omega arith)))) refl
+      let apart : 104 + placeIn bins s v ≡ 104 + placeIn bins s 0 → ⊥ = λ e. off
+      (bins-differ bins (hopOf bins s) v 0 (omega arith) (omega arith) (omega arith)) in
+      metric-row s v ∙ rw (ne-eqb (104 + placeIn bins s v) (104 + placeIn bins s 0) apart) refl
 
 -- ---- sums of ones and zeros
 

@@ -125,7 +125,8 @@ module _ (mode kind : ℕ) (terms : List Float) (ints : ℕ → ℤ) (all : leng
   same = header-alike (follows-whole 3584000 (lit≤ tt)) mode kind 800 (lent terms) ints stand (lit≤ tt)
 
   -- and a walk's f32 score is its whole number: on such terms the premise of `AnyTerms` (a walk is below another) is demand 3's
-  pub walks-less : (p v q w : ℕ) → lt (walk single mode kind (lent terms) p v) (walk single mode kind (lent terms) q w) ≡ ltZ (walk whole mode kind ints p v) (walk whole mode kind ints q w)
+  pub walks-less : (p v q w : ℕ) → lt (walk single mode kind (lent terms) p v) (walk single mode kind (lent terms) q w)
+      ≡ ltZ (walk whole mode kind ints p v) (walk whole mode kind ints q w)
   walks-less p v q w =
       let stands = walk-alike (follows-whole 3584000 (lit≤ tt)) mode kind 800 (lent terms) ints stand (lit≤ tt) in
       follows-whole 3584000 (lit≤ tt) .gt (stands q w) (stands p v)

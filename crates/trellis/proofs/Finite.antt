@@ -45,9 +45,15 @@ follows-self =
       wider = λ {a} {b} l h. record { same = h .same; score = score-wider binary32 b 20 (h .score) (mul-le-mul-right (2 ^ 20) l) };
       term = λ h. record { same = h .same; fits = h .score .fits; upto = h .score .upto };
       add =
-          λ h k room. record { same = ap₂ (Ieee.add binary32) (h .same) (k .same); score = score-add binary32 (h .score) (k .fits) (k .upto) (le-refl _) (omega arith) (lit≤ tt) };
+          λ h k room. record {
+            same = ap₂ (Ieee.add binary32) (h .same) (k .same);
+            score = score-add binary32 (h .score) (k .fits) (k .upto) (le-refl _) (omega arith) (lit≤ tt);
+          };
       sub =
-          λ h k room. record { same = ap₂ (Ieee.sub binary32) (h .same) (k .same); score = score-sub binary32 (h .score) (k .score .fits) (k .score .upto) (le-refl _) (omega arith) (lit≤ tt) };
+          λ h k room. record {
+            same = ap₂ (Ieee.sub binary32) (h .same) (k .same);
+            score = score-sub binary32 (h .score) (k .score .fits) (k .score .upto) (le-refl _) (omega arith) (lit≤ tt);
+          };
       gt = λ h k. ap₂ (λ (a b : Float). Ieee.lt b a) (h .same) (k .same);
     }
 
@@ -58,7 +64,11 @@ module _ (mode kind : ℕ) (terms : List Float) (all : length terms ≡ 260 * he
   term : (i : ℕ) → i < 260 * headerBits kind → Term 1 (lent terms i) (lent terms i)
   term i l =
       let there : i < length terms = subst (λ (k : ℕ). i < k) (sym all) l in
-      record { same = refl; fits = h .held i there; upto = upto-within (record { finite = tt; size = lit≤ tt }) (record { finite = tt; size = lit≤ tt }) (h .within i there) }
+      record {
+        same = refl;
+        fits = h .held i there;
+        upto = upto-within (record { finite = tt; size = lit≤ tt }) (record { finite = tt; size = lit≤ tt }) (h .within i there);
+      }
 
   -- every score of pass k after j steps (j = 0: its start), none above 4,480 · 2^20
   pub scores-finite : (k j s : ℕ) → k ≤ 2 → j ≤ headerBits kind → s < 16384 → Score binary32 4480 20 (scores X (begin X k) j s)

@@ -14,7 +14,8 @@ use Rattle.ieee.specs.Whole.{run}
 use Rattle.conv.specs.Encoder.{state, walkRegister, bit}
 use Rattle.trellis.specs.Scale.{Scale}
 use Rattle.trellis.specs.Trellis.{Trellis, walkScore}
-use Rattle.trellis.specs.Search.{How, closing, candidate, unclosed, Candidate, Found, decision, final, endState, startOf, wordOf, closes, scoreOf, gainOf, candidates, begin, closesIn, last, best, wordIn, settled, search}
+use Rattle.trellis.specs.Search.{How, closing, candidate, unclosed, Candidate, Found, decision, final, endState, startOf, wordOf}
+use Rattle.trellis.specs.Search.{closes, scoreOf, gainOf, candidates, begin, closesIn, last, best, wordIn, settled, search}
 use Rattle.trellis.proofs.Paths.{trace-state, trace-start-lt, trace-word-lt}
 use Rattle.trellis.proofs.Best.{Ranked, along, attained, scores-ok, end-greatest, highest-lt}
 

@@ -66,7 +66,8 @@ module _ {A B : Type 0} {S : Scale A} {Z : Scale B} {R W : ℕ → A → B → T
   -- and a walk earns the same, added from the left
   pub walk-alike : (p w : ℕ) → R cap (walkScore (header S mode kind t) p w) (walkScore (header Z mode kind u) p w)
   walk-alike p w =
-      F .wider (few (headerBits kind) (header-most kind)) (sum-alike F (5 * M) _ _ (headerBits kind) (λ j h. F .term (earn-alike j _ h)) (few (headerBits kind) (header-most kind)))
+      let room-for = few (headerBits kind) (header-most kind) in
+      F .wider room-for (sum-alike F (5 * M) _ _ (headerBits kind) (λ j h. F .term (earn-alike j _ h)) room-for)
     where
       few : (h : ℕ) → h ≤ 64 → h * (5 * M) ≤ cap
       few h l = omega (arith, mul-le-mul-right (5 * M) l)

@@ -71,7 +71,8 @@ module _ (mode kind a : ℕ) (terms : List Float) (ints : ℕ → ℤ) (all : le
       (run-near binary32 (a + 3) (a + 133) (5 * (0 + 2 ^ (a + 127))) _ _ (headerBits kind) (λ j k. earn-upto j _ k) (λ j k. earn-near j _ k)
       (omega (arith, header-most kind)) (omega arith)
       (omega (arith, mul-le-mul-right (2 ^ (a + 3 + 149)) (header-most kind), up-by (a + 3 + 149) (24 + suc (a + 133)) 6 (omega arith))))
-      (all-lost (headerBits kind) (2 ^ (a + 127)) (2 ^ (a + 133)) (lost a) (header-most kind) (up-by (a + 127) (a + 133) 6 (omega arith)) (up-by (a + 127) (a + 149 - 9) 13 (omega arith)))
+      (all-lost (headerBits kind) (2 ^ (a + 127)) (2 ^ (a + 133)) (lost a) (header-most kind) (up-by (a + 127) (a + 133) 6 (omega arith))
+      (up-by (a + 127) (a + 149 - 9) 13 (omega arith)))
     where
       all-lost : (n u v w : ℕ) → n ≤ 64 → v ≡ u * 64 → w ≡ u * 8192 → n * (5 * (0 + u) + v) ≤ w
       all-lost n u v w l d e = omega (arith, mul-le-mul-right (5 * (0 + u) + v) l)

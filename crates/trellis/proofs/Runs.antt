@@ -7,7 +7,8 @@ use lib.ListN.{getD}
 use lib.IntN.{ℤ, pos}
 use Rattle.trellis.specs.Scale.{highest}
 use Rattle.trellis.specs.Trellis.{Trellis}
-use Rattle.trellis.specs.Search.{closing, candidate, unclosed, traceStart, traceWord, beats, scores, decision, candidates, begin, closesIn, last, best, settled, search}
+use Rattle.trellis.specs.Search.{closing, candidate, unclosed, traceStart, traceWord, beats, scores}
+use Rattle.trellis.specs.Search.{decision, candidates, begin, closesIn, last, best, settled, search}
 use Rattle.trellis.specs.Numbers.{whole}
 
 -- what registers 0 to 7 earn at step 0, and at step 1

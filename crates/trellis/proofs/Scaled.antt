@@ -36,5 +36,7 @@ pub whole-units : {b : ℕ} {terms : List Float} {ints : ℕ → ℤ} (a : ℕ) 
 whole-units {b} {terms} {ints} a h l =
     record {
       units = λ i k. units-whole 149 (h .whole i k);
-      small = λ i k. le-trans (le-of-eq (abs-times (2 ^ 149) (ints i) ∙ mul-comm (2 ^ 149) (natAbs (ints i)))) (le-trans (mul-le-mul-right (2 ^ 149) (le-trans (h .small i k) l)) (le-of-eq (sym (pow-add 2 a 149))));
+      small = λ i k.
+          le-trans (le-of-eq (abs-times (2 ^ 149) (ints i) ∙ mul-comm (2 ^ 149) (natAbs (ints i))))
+          (le-trans (mul-le-mul-right (2 ^ 149) (le-trans (h .small i k) l)) (le-of-eq (sym (pow-add 2 a 149))));
     }

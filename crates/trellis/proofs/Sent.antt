@@ -6,27 +6,26 @@ use native.Mathlib.Decide.{ℕ-discrete}
 use native.Mathlib.Omega.{arith}
 use borrow.Author.Tests.{eq-eqb, ne-eqb}
 use lib.Dec.{eqb}
-use lib.ListN.{getD}
 use lib.IntN.{ℤ, pos, _+ℤ_, +ℤ-assoc, +ℤ-comm, +ℤ-idl, +ℤ-idr}
 use Rattle.ieee.specs.Whole.{run}
+use Rattle.ieee.proofs.Folds.{run-same}
 use Rattle.util.specs.Choose.{choose}
 use Rattle.frame.specs.Format.{formatOf, headerBits}
 use Rattle.frame.specs.Air.{slotOf}
 use Rattle.frame.proofs.Air.{slot-within, slots-differ}
 use Rattle.frame.proofs.Onto.{every-slot}
 use Rattle.conv.specs.Encoder.{bit}
-use Rattle.conv.specs.Sent.{stepLabel, labels}
+use Rattle.conv.specs.Sent.{stepLabel}
 use Rattle.conv.proofs.Slots.{labels-at}
 use Rattle.trellis.specs.Scale.{Scale, sum}
 use Rattle.trellis.specs.Numbers.{whole}
 use Rattle.trellis.specs.Terms.{metric}
 use Rattle.trellis.specs.Demand.{closed, symbolEarns}
-use Rattle.trellis.proofs.Best.{run-cong}
 
 -- ---- sums
 
 sum-cong : {x y : ℕ → ℤ} (n : ℕ) → ((i : ℕ) → i < n → x i ≡ y i) → sum whole x n ≡ sum whole y n
-sum-cong n h = run-cong _+ℤ_ (pos 0) n h
+sum-cong n h = run-same _+ℤ_ (pos 0) _ _ n h
 
 sum-none : (n : ℕ) → sum whole (λ i. pos 0) n ≡ pos 0
 unfolding run
@@ -99,7 +98,7 @@ pub sent-in-steps : {A : Type 0} (S : Scale A) (mode kind : ℕ) (terms : ℕ �
 unfolding stepLabel
 sent-in-steps S mode kind terms w =
     let n = headerBits kind in
-    run-cong (S .add) (S .nil) n (λ j h. ap (metric S (formatOf mode .bins) terms (slotOf n j)) (sym (labels-at n (bit w) j h)))
+    run-same (S .add) (S .nil) _ _ n (λ j h. ap (metric S (formatOf mode .bins) terms (slotOf n j)) (sym (labels-at n (bit w) j h)))
 
 -- and of whole numbers in any order: the sum over the header's symbols of the metric of the value sent there
 pub sent-earns : (mode kind : ℕ) (ints : ℕ → ℤ) (w : ℕ) → closed whole mode kind ints w ≡ sum whole (symbolEarns whole mode kind ints w) (headerBits kind)

@@ -1,19 +1,15 @@
 -- Document 01, 'A header read': from terms to what a register earns, and the search over them.
 use Prim.Native.Nat.{ℕ, _+_, _^_, _≤_, _<_}
-use mathlib.Core.Bool.{true, false}
 use mathlib.Core.List.{List}
 use lib.ListN.{length, getD}
-use lib.Dec.{T}
 use lib.IntN.{ℤ, natAbs}
-use lib.Ieee.{Float, nan, binary32, fits}
+use lib.Ieee.{Float, nan}
 use Rattle.ieee.specs.Whole.{Whole}
-use Rattle.ieee.specs.Within.{Within}
 use Rattle.ieee.specs.Units.{Units}
 use Rattle.frame.specs.Format.{formatOf, headerBits}
 use Rattle.frame.specs.Air.{hopOf, binOf, placeOf, slotOf}
 use Rattle.conv.specs.Label.{labelOf}
 use Rattle.model.specs.Metric.{metricOf}
-use Rattle.model.specs.Range.{million}
 use Rattle.trellis.specs.Scale.{Scale}
 use Rattle.trellis.specs.Trellis.{Trellis}
 use Rattle.trellis.specs.Search.{search}

@@ -1,12 +1,13 @@
--- A list filled upwards, one store or one row a turn, is the list by its places. Assumes nothing.
+-- A list filled one store or one row a turn is the list by its places. Assumes nothing.
 use Prim.Native.Nat.{ℕ, zero, suc, _+_, _-_, _*_, _≤_, _<_}
-use mathlib.Core.Path.{_≡_, refl, sym, ap, ap₂, _∙_}
+use mathlib.Core.Path.{_≡_, refl, sym, ap, ap₂, subst, _∙_}
 use mathlib.Core.Logic.{_⊎_, inl, inr, ⊎-elim}
 use mathlib.Core.List.{List, _∷_}
-use native.Mathlib.Nat.{ne-of-lt, not-suc-le-zero, eq-zero-or-pos, add-zero, mul-add-div, mul-add-mod-self-left, div-eq-of-lt, mod-eq-of-lt}
+use native.Mathlib.Nat.{ne-of-lt, ne-of-gt, not-suc-le-zero, eq-or-lt-of-le, eq-zero-or-pos, add-zero}
+use native.Mathlib.Nat.{mul-add-div, mul-add-mod-self-left, div-eq-of-lt, mod-eq-of-lt}
 use native.Mathlib.Omega.{arith}
 use borrow.Author.Count.{below-more}
-use lib.ListN.{length, getD, set, length-set}
+use lib.ListN.{length, getD, set, replicate, length-set, length-replicate, getD-replicate}
 use lib.Seq.{getD-set-same, getD-set-other, ext-getD}
 use Rattle.util.specs.Table.{tabled, rows, Stored}
 
@@ -20,6 +21,28 @@ up-done l i v d g inside e rest =
     below-more (λ (k : ℕ). getD (set l i v) k d ≡ g k) i
     (λ k h. getD-set-other l i k v d (ne-of-lt h) ∙ rest k h)
     (getD-set-same l i v d inside ∙ e)
+
+module _ {A : Type 0} (l : List A) (i : ℕ) (v d : A) where
+  -- what a store leaves above
+  pub up-kept : (old : List A) → ((k : ℕ) → i ≤ k → getD l k d ≡ getD old k d) → (k : ℕ) → i + 1 ≤ k → getD (set l i v) k d ≡ getD old k d
+  up-kept old rest k h = let above : i < k = omega arith in getD-set-other l i k v d (ne-of-gt above) ∙ rest k (omega arith)
+
+  -- downwards: what holds from i + 1 on, and at i, holds from i on
+  pub down-done : (g : ℕ → A) (hi : ℕ) → i < length l → v ≡ g i → ((s : ℕ) → i + 1 ≤ s → s < hi → getD l s d ≡ g s)
+      → (s : ℕ) → i ≤ s → s < hi → getD (set l i v) s d ≡ g s
+  down-done g hi inside e rest s h below =
+      ⊎-elim
+      (λ q. subst (λ (j : ℕ). getD (set l i v) j d ≡ g j) q (getD-set-same l i v d inside ∙ e))
+      (λ q. getD-set-other l i s v d (ne-of-gt q) ∙ rest s (omega arith) below)
+      (eq-or-lt-of-le h)
+
+  pub down-kept : (old : List A) → ((s : ℕ) → s < i + 1 → getD l s d ≡ getD old s d) → (s : ℕ) → s < i → getD (set l i v) s d ≡ getD old s d
+  down-kept old rest s h = getD-set-other l i s v d (ne-of-lt h) ∙ rest s (omega arith)
+
+-- a list whose places all hold a is a repeated
+pub filled : {A : Type 0} (l : List A) (n : ℕ) (a d : A) → length l ≡ n → ((k : ℕ) → k < n → getD l k d ≡ a) → l ≡ replicate n a
+filled l n a d e h =
+    ext-getD d l (replicate n a) (e ∙ sym (length-replicate n a)) (λ i k. let k′ : i < n = omega arith in h i k′ ∙ sym (getD-replicate n i a d k′))
 
 pub tabled-length : {A : Type 0} (n : ℕ) (f : ℕ → A) → length (tabled n f) ≡ n
 unfolding tabled
@@ -59,8 +82,8 @@ row-more d w base row was l v s h e =
     }
 
 -- the rows below i, and row i, are the rows below i + 1
-pub rows-more : {A : Type 0} (d : A) (w i : ℕ) (g : ℕ → A) (row : ℕ → A) (was l : List A) → Stored d w (w * i) row was l → ((k : ℕ) → k < w → row k ≡ g (w * i + k))
-    → ((k : ℕ) → k < w * i → getD was k d ≡ g k) → (k : ℕ) → k < w * (i + 1) → getD l k d ≡ g k
+pub rows-more : {A : Type 0} (d : A) (w i : ℕ) (g : ℕ → A) (row : ℕ → A) (was l : List A) → Stored d w (w * i) row was l
+    → ((k : ℕ) → k < w → row k ≡ g (w * i + k)) → ((k : ℕ) → k < w * i → getD was k d ≡ g k) → (k : ℕ) → k < w * (i + 1) → getD l k d ≡ g k
 rows-more d w i g row was l s e rest k h =
     ⊎-elim
     (λ low. s .kept k low ∙ rest k low)

@@ -7,7 +7,7 @@ use native.Mathlib.Omega.{arith}
 use borrow.Author.Tests.{ltb-true}
 use lib.Dec.{ltb}
 use Rattle.util.specs.Choose.{choose}
-use Rattle.util.specs.Refusal.{Cause, Outcome, refused, accepted, outcome}
+use Rattle.util.specs.Refusal.{Cause, Outcome, refused, outcome}
 
 -- each cause's number is above 0
 abbrev pub numbered : List Cause → Bool

@@ -8,7 +8,7 @@ ghost use Rattle.util.specs.Crc.{crcStep, crcOf};
 ghost use Rattle.util.specs.Factor.{gcdOf};
 ghost use Rattle.util.specs.Multiplier.{startOf, pairs, suits, firstOf, multOf, meaning, multiplier};
 
-// a * b modulo 2^64, by halves of 32 bits: the product of the upper halves falls out.
+// Inside: a * b modulo 2^64, by halves of 32 bits: the product of the upper halves falls out.
 pub fn wrapping_mul_u64(a: u64, b: u64) -> u64
     ensures wraps { λ r. ⌜ r ≡ a * b % 2 ^ 64 ⌝ }
 {
@@ -21,7 +21,7 @@ pub fn wrapping_mul_u64(a: u64, b: u64) -> u64
     std::num::wrapping_add_u64(a_low * b_low, (cross % 0x1_0000_0000) * 0x1_0000_0000)
 }
 
-// SplitMix64's first output from this seed.
+// Inside: SplitMix64's first output from this seed.
 pub fn mix64(seed: u64) -> u64
     ensures { λ r. ⌜ r ≡ firstOutput seed ⌝ }
 {
@@ -31,13 +31,14 @@ pub fn mix64(seed: u64) -> u64
     twice ^ (twice >> 31)
 }
 
+// Inside: the Gray code of a value.
 pub fn gray(v: u64) -> u64
     ensures { λ r. ⌜ r ≡ grayOf v ⌝ }
 {
     v ^ (v >> 1)
 }
 
-// One bit through the CRC's register. It enters at the top.
+// Inside: one bit through the CRC's register. It enters at the top.
 pub fn crc_step(crc: u16, bit: u8) -> u16
     ensures { λ r. ⌜ r ≡ crcStep crc bit ⌝ }
 {
@@ -49,7 +50,7 @@ pub fn crc_step(crc: u16, bit: u8) -> u16
     }
 }
 
-// CRC-16-CCITT over bits, from `init`.
+// Inside: CRC-16-CCITT over bits, from `init`.
 pub fn crc16(bits: &[u8], init: u16) -> u16
     ensures { λ r. ⌜ r ≡ crcOf init (now (bits .entry)) ⌝ }
 {
@@ -60,7 +61,7 @@ pub fn crc16(bits: &[u8], init: u16) -> u16
     crc
 }
 
-// The greatest common divisor, by Euclid.
+// Inside: the greatest common divisor, by Euclid.
 pub fn gcd(a: u64, b: u64) -> u64
     ensures { λ r. ⌜ r ≡ gcdOf a b ⌝ }
 {
@@ -88,7 +89,7 @@ fn suitable(n: u64, a: u64) -> bool
 }
 
 // a - b, or 0 where b is greater.
-fn less(a: u64, b: u64) -> u64
+fn saturating_sub(a: u64, b: u64) -> u64
     ensures { λ r. ⌜ r ≡ a - b ⌝ }
 {
     if b <= a { a - b } else { 0 }
@@ -113,7 +114,7 @@ fn around(n: u64, s: u64) -> u64
         if suitable(n, above) {
             return above;
         }
-        let below = less(s, d);
+        let below = saturating_sub(s, d);
         if suitable(n, below) {
             return below;
         }

@@ -1,8 +1,6 @@
 // Soft values by a record: what is 128 + form + 2·(kind + 3·mode). The argument has a seed in its lowest 32 bits, then the bit
 // count in 16 bits and the window's number in 8. Terms and counts are worked out from the seed; the answer is a digest of the
 // bits of all metrics and soft bits, each mixed into what came before.
-const NONE: u64 = 0x1_0000_0000;
-
 // A term from -12.5 to 12.5, by sixteenths.
 fn term(x: u64) -> f32 {
     (((x % 401) as u16) as f32 - 200.0) / 16.0
@@ -54,7 +52,7 @@ fn burst(
     fill(seed, terms);
     count(seed, window, counts);
     let bits = ((asked >> 32) % 65536) as u32;
-    let k = ion::ion_soft_values(
+    let k = ion::data::ion_soft_values(
         what / 6,
         what / 2 % 3,
         what % 2,
@@ -67,7 +65,7 @@ fn burst(
         soft,
     );
     if k != 0 {
-        return crate::refusal(k);
+        return records::refusal(k);
     }
     digest(digest(seed, metrics), soft)
 }
@@ -89,11 +87,11 @@ fn window_of(mode: u8, number: u64) -> u32 {
 
 pub fn answer(what: u8, asked: u64) -> u64 {
     if what < 128 {
-        return NONE;
+        return records::NONE;
     }
     let bits = ((asked >> 32) % 65536) as usize;
     if bits > 320 {
-        return NONE;
+        return records::NONE;
     }
     let n = (bits + 4) / 5;
     let mut terms = [0.0f32; 16640];

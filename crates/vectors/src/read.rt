@@ -3,8 +3,6 @@
 ghost use lib.ListN.{length};
 ghost use mathlib.Core.Path.{_≡_};
 
-const NONE: u64 = 0x1_0000_0000;
-
 fn small(x: u64) -> f32 {
     ((x % 5) as u16) as f32 - 2.0
 }
@@ -49,7 +47,7 @@ pub fn bits(score: f32) -> u64 {
     if score == score {
         return wide(f32::to_bits(score));
     }
-    NONE
+    records::NONE
 }
 
 fn told(part: u8, word: u64, outcome: u8, pass: u8, score: f32) -> u64 {
@@ -71,24 +69,24 @@ fn read(
     terms: &mut [f32],
     decisions: &mut [u64],
 ) -> u64 {
-    if ion::ion_header_values(mode, kind, bits, values) != 0 {
-        return NONE;
+    if ion::air::ion_header_values(mode, kind, bits, values) != 0 {
+        return records::NONE;
     }
     fill(seed, terms);
     raise(mode, seed, values, terms);
-    let mut ends = [0.0f32; 16384];
-    let mut second = [0.0f32; 16384];
+    let mut scores = [0.0f32; 16384];
+    let mut next = [0.0f32; 16384];
     let mut start = [0.0f32; 16384];
     let mut word = 0u64;
     let mut outcome = 0u8;
     let mut pass = 0u8;
     let mut score = 0.0f32;
-    let k = ion::ion_read_header(
+    let k = ion::read::ion_read_header(
         mode,
         kind,
         terms,
-        &mut ends,
-        &mut second,
+        &mut scores,
+        &mut next,
         &mut start,
         decisions,
         &mut word,
@@ -97,18 +95,18 @@ fn read(
         &mut score,
     );
     if k != 0 {
-        return crate::refusal(k);
+        return records::refusal(k);
     }
     told(part, word, outcome, pass, score)
 }
 
 pub fn header(what: u8, seed: u64) -> u64 {
     if what < 64 {
-        return NONE;
+        return records::NONE;
     }
     let rest = what - 64;
     let kind = rest / 3 % 3;
-    let bits = crate::bits_of(probe::probe_mix64(seed));
+    let bits = burst_file::verdict::bits_of(probe::probe_mix64(seed));
     let mut values = [0u8; 64];
     let mut terms = [0.0f32; 16640];
     let mut decisions = [0u64; 16384];

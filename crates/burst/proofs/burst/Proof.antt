@@ -24,8 +24,8 @@ add-m c = search needs
 array-borrow-prefix-first : tie.Need-array-borrow-prefix-first
 array-borrow-prefix-first c = search needs
 
-slice-aggregate-heard : tie.Need-slice-aggregate-heard
-slice-aggregate-heard c = sym (length-take-le _ _ (omega arith))
+slice-aggregate-worked : tie.Need-slice-aggregate-worked
+slice-aggregate-worked c = sym (length-take-le _ _ (omega arith))
 
 mul-data : tie.Need-mul-data
 mul-data c = search needs
@@ -33,14 +33,14 @@ mul-data c = search needs
 array-borrow-prefix-data : tie.Need-array-borrow-prefix-data
 array-borrow-prefix-data c = search needs
 
-slice-aggregate-heard-2 : tie.Need-slice-aggregate-heard-2
-slice-aggregate-heard-2 c = sym (length-take-le _ _ (omega arith))
+slice-aggregate-worked-2 : tie.Need-slice-aggregate-worked-2
+slice-aggregate-worked-2 c = sym (length-take-le _ _ (omega arith))
 
 array-borrow-prefix-counts : tie.Need-array-borrow-prefix-counts
 array-borrow-prefix-counts c = search needs
 
-slice-aggregate-heard-3 : tie.Need-slice-aggregate-heard-3
-slice-aggregate-heard-3 c = sym (length-take-le _ _ (omega arith))
+slice-aggregate-worked-3 : tie.Need-slice-aggregate-worked-3
+slice-aggregate-worked-3 c = sym (length-take-le _ _ (omega arith))
 
 mul-metrics : tie.Need-mul-metrics
 mul-metrics c = search needs
@@ -48,17 +48,17 @@ mul-metrics c = search needs
 array-borrow-prefix-metrics : tie.Need-array-borrow-prefix-metrics
 array-borrow-prefix-metrics c = search needs
 
-slice-aggregate-heard-4 : tie.Need-slice-aggregate-heard-4
-slice-aggregate-heard-4 c = sym (length-take-le _ _ (omega arith))
+slice-aggregate-worked-4 : tie.Need-slice-aggregate-worked-4
+slice-aggregate-worked-4 c = sym (length-take-le _ _ (omega arith))
 
 array-borrow-prefix-soft : tie.Need-array-borrow-prefix-soft
 array-borrow-prefix-soft c = search needs
 
-slice-aggregate-heard-5 : tie.Need-slice-aggregate-heard-5
-slice-aggregate-heard-5 c = sym (length-take-le _ _ (omega arith))
+slice-aggregate-worked-5 : tie.Need-slice-aggregate-worked-5
+slice-aggregate-worked-5 c = sym (length-take-le _ _ (omega arith))
 
-heard-requires : tie.Need-heard-requires
-heard-requires c κs = search needs
+worked-requires : tie.Need-worked-requires
+worked-requires c κs = search needs
 
 returns : tie.Need-returns
 returns c = search needs
@@ -73,16 +73,16 @@ burst-spec =
     header-terms-requires
     add-m
     array-borrow-prefix-first
-    slice-aggregate-heard
+    slice-aggregate-worked
     mul-data
     array-borrow-prefix-data
-    slice-aggregate-heard-2
+    slice-aggregate-worked-2
     array-borrow-prefix-counts
-    slice-aggregate-heard-3
+    slice-aggregate-worked-3
     mul-metrics
     array-borrow-prefix-metrics
-    slice-aggregate-heard-4
+    slice-aggregate-worked-4
     array-borrow-prefix-soft
-    slice-aggregate-heard-5
-    heard-requires
+    slice-aggregate-worked-5
+    worked-requires
     returns)

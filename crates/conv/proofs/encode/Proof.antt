@@ -86,7 +86,8 @@ add-register c =
     let at = c .before .before in
     let begin = at .before .before .before .before in
     let bits = begin .args .bits .now in
-    omega (arith, at .loop .inv .1, after-below bits (headerBits (begin .args .kind)) (at .loop .j) (begin .pre .2), bits-below bits (begin .pre .2) (at .loop .j))
+    let below = after-below bits (headerBits (begin .args .kind)) (at .loop .j) (begin .pre .2) in
+    omega (arith, at .loop .inv .1, below, bits-below bits (begin .pre .2) (at .loop .j))
 
 header-slot-requires : tie.Need-header-slot-requires Inv-loop μ-loop
 header-slot-requires c κs =

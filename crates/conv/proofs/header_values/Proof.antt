@@ -13,11 +13,14 @@ use Rattle.conv.proofs.header_values.Tie as tie
 known : (c : tie.Else1) → named (c .before .before .before .before .args .mode) (c .before .before .before .before .args .kind) ≡ true
 known c = sym (c .before .is-named .ensures) ∙ not-false _ (c .if1 .left)
 
+abbrev entry : tie.Else2 → tie.Start
+entry c = c .before .before .before .before .before .before
+
 -- past the second there are n bits, and past the third n values
-n-bits : (c : tie.Else2) → length (c .before .before .before .before .before .before .args .bits .now) ≡ headerBits (c .before .before .before .before .before .before .args .kind)
+n-bits : (c : tie.Else2) → length (entry c .args .bits .now) ≡ headerBits (entry c .args .kind)
 n-bits c = c .if2 .left ∙ c .before .header-symbols .ensures
 
-n-values : (c : tie.Else3) → length (c .before .before .before .before .before .before .before .args .values .now) ≡ headerBits (c .before .before .before .before .before .before .before .args .kind)
+n-values : (c : tie.Else3) → length (entry (c .before) .args .values .now) ≡ headerBits (entry (c .before) .args .kind)
 n-values c = c .if3 .left ∙ c .before .before .header-symbols .ensures
 
 is-named-requires : tie.Need-is-named-requires
@@ -43,8 +46,8 @@ returns-3 c =
     let four = ne-eqb _ _ (λ e. c .if3 .taken (e ∙ sym (at .before .header-symbols .ensures))) in
     simp (known (at .before .before), bits, four) (refl, refl)
 
-no-bits-requires : tie.Need-no-bits-requires
-no-bits-requires c κs = search needs
+some-above-one-requires : tie.Need-some-above-one-requires
+some-above-one-requires c κs = search needs
 
 returns-4 : tie.Need-returns-4
 returns-4 c =
@@ -52,13 +55,13 @@ returns-4 c =
     let named = known (at .before .before .before) in
     let bits = eq-eqb _ _ (n-bits (at .before)) in
     let values = eq-eqb _ _ (n-values at) in
-    let five = sym (c .before .no-bits .ensures) ∙ c .if4 .taken in
+    let five = sym (c .before .some-above-one .ensures) ∙ c .if4 .taken in
     simp (named, bits, values, five) (refl, refl)
 
 encode-requires : tie.Need-encode-requires
 encode-requires c κs =
     let at = c .before .before .before in
-    (n-bits (at .before), n-values at, sym (c .before .before .no-bits .ensures) ∙ c .before .if4 .left)
+    (n-bits (at .before), n-values at, sym (c .before .before .some-above-one .ensures) ∙ c .before .if4 .left)
 
 same-length : tie.Need-same-length
 same-length c = search needs
@@ -69,7 +72,7 @@ returns-5 c =
     let named = known (at .before .before .before) in
     let bits = eq-eqb _ _ (n-bits (at .before)) in
     let values = eq-eqb _ _ (n-values at) in
-    let digits = sym (c .before .before .before .before .before .no-bits .ensures) ∙ c .before .before .before .before .if4 .left in
+    let digits = sym (c .before .before .before .before .before .some-above-one .ensures) ∙ c .before .before .before .before .if4 .left in
     simp (named, bits, values, digits) (refl, c .before .before .encode .ensures)
 
 pub header-values-spec : {M : Type 1} → statement M
@@ -81,7 +84,7 @@ header-values-spec =
     header-symbols-requires
     returns-2
     returns-3
-    no-bits-requires
+    some-above-one-requires
     returns-4
     encode-requires
     same-length

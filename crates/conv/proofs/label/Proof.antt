@@ -64,4 +64,8 @@ unfolding labelOf
 returns c = omega arith
 
 pub label-spec : {M : Type 1} → statement M
-label-spec = tie.close (tie.spec array-read-parity parity-requires array-read-parity-2 parity-requires-2 mul-result add-result array-read-parity-3 parity-requires-3 mul-result-2 add-result-2 array-read-parity-4 parity-requires-4 mul-result-3 add-result-3 array-read-parity-5 parity-requires-5 mul-result-4 add-result-4 returns)
+label-spec =
+    tie.close
+    (tie.spec array-read-parity parity-requires array-read-parity-2 parity-requires-2 mul-result add-result
+    array-read-parity-3 parity-requires-3 mul-result-2 add-result-2 array-read-parity-4 parity-requires-4 mul-result-3
+    add-result-3 array-read-parity-5 parity-requires-5 mul-result-4 add-result-4 returns)

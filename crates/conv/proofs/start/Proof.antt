@@ -86,4 +86,6 @@ returns c =
 
 pub start-spec : {M : Type 1} → statement M
 start-spec =
-    tie.close (tie.spec Inv-loop μ-loop sub-i loop-holds mul-state shared-slice-read-state cast-state add-state add-i loop-less loop-again returns)
+    tie.close
+    (tie.spec Inv-loop μ-loop sub-i loop-holds mul-state shared-slice-read-state cast-state add-state add-i loop-less
+    loop-again returns)

@@ -4,7 +4,7 @@ use native.Mathlib.Omega.{arith}
 use borrow.Author.Needs.{needs}
 use lib.Ieee.{binary64, ofBits, ofInt, neg}
 use lib.IntN.{pos}
-use Rattle.drift.proofs.Further.{length-few, symbol-sized}
+use Rattle.tracker.proofs.Further.{length-few, symbol-sized}
 use Rattle.ieee.proofs.Values.{ofInt-allowed}
 use mir.Facts.{toZ-ofZ}
 use mir.Syntax.{w32}
@@ -55,7 +55,13 @@ int-to-float-t16 : tie.Need-int-to-float-t16
 int-to-float-t16 c = search needs
 
 int-to-float-t15 : tie.Need-int-to-float-t15
-int-to-float-t15 c = ofInt-allowed binary64 (pos _) (omega (arith, c .before .before .before .before .before .before .block-length .ensures, length-few (c .before .before .before .before .before .before .before .args .mode)))
+int-to-float-t15 c = ofInt-allowed binary64 (pos _)
+    (omega (
+      arith,
+      c .before .before .before .before .before .before .block-length .ensures,
+      length-few
+          (c .before .before .before .before .before .before .before .args .mode),
+    ))
 
 returns : tie.Need-returns
 unfolding ofBits ofInt neg
@@ -66,4 +72,6 @@ returns c =
     simp (whole, c .before .before .clamp .ensures, at .symbol .ensures, at .before .before .block-length .ensures)
 
 pub block-of-spec : {M : Type 1} → statement M
-block-of-spec = tie.close (tie.spec block-length-requires add-shift-sum sub-shift-sum shift-sum-requires symbol-requires sub-gate int-to-float-gate clamp-requires mul-t10 add-t11 sub-t17 cast-t12 int-to-float-t16 int-to-float-t15 returns)
+block-of-spec = tie.close
+    (tie.spec block-length-requires add-shift-sum sub-shift-sum shift-sum-requires symbol-requires sub-gate int-to-float-gate clamp-requires mul-t10
+    add-t11 sub-t17 cast-t12 int-to-float-t16 int-to-float-t15 returns)

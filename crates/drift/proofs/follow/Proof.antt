@@ -5,8 +5,8 @@ use borrow.Author.Needs.{needs}
 use lib.Ieee.{binary64}
 use lib.IntN.{pos}
 use Rattle.drift.proofs.Words.{back, shift-after-size}
-use Rattle.drift.specs.Doubles.{_⊗_, whole}
-use Rattle.drift.specs.Tracker.{shiftAfter}
+use Rattle.blocks.specs.Doubles.{_⊗_, asF64}
+use Rattle.drift.specs.Call.{shiftAfter}
 use Rattle.ieee.proofs.Values.{ofInt-allowed}
 use Rattle.drift.proofs.follow.Statement.{statement}
 use Rattle.drift.proofs.follow.Tie as tie
@@ -26,7 +26,8 @@ returns : tie.Need-returns
 returns c =
     let a = c .before .before .before .before in
     let same = back (a .args .t .shift) (omega (arith, a .pre .1)) in
-    let next = back (shiftAfter (a .args .t .shift) (a .args .drift ⊗ whole (a .args .t .n + 1))) (omega (arith, a .pre .1, shift-after-size (a .args .t .shift) (a .args .drift ⊗ whole (a .args .t .n + 1)))) in
+    let next = back (shiftAfter (a .args .t .shift) (a .args .drift ⊗ asF64 (a .args .t .n + 1)))
+    (omega (arith, a .pre .1, shift-after-size (a .args .t .shift) (a .args .drift ⊗ asF64 (a .args .t .n + 1)))) in
     simp (c .shift-after .ensures, same, next)
 
 pub follow-spec : {M : Type 1} → statement M

@@ -6,8 +6,9 @@ use native.Mathlib.Omega.{arith}
 use borrow.Author.Needs.{needs}
 use borrow.Author.Tests.{eq-eqb, ne-eqb}
 use lib.Ieee.{ofBits}
-use Rattle.drift.proofs.Further.{length-few, waiting-below}
-use Rattle.drift.specs.Tracker.{blockLength, waiting, judgedOf}
+use Rattle.tracker.proofs.Further.{length-few, waiting-below}
+use Rattle.tracker.specs.Rule.{blockLength, waiting}
+use Rattle.drift.specs.Call.{judgedOf}
 use Rattle.drift.proofs.judge.Statement.{statement}
 use Rattle.drift.proofs.judge.Tie as tie
 
@@ -27,8 +28,12 @@ block-of-requires : tie.Need-block-of-requires
 block-of-requires c κs =
     let a = c .before .before .before .before in
     let n = c .before .before .block-length .ensures in
-    let w = c .before .before .before .waits .ensures in
-    (omega (arith, n, w, c .before .if1 .taken, mod-le (a .args .t .n - 2) (blockLength (a .args .mode))), omega (arith, a .pre .1 .calls), a .pre .1 .long, λ j h. a .pre .1 .small j (omega (arith, a .pre .0)))
+    let w = c .before .before .before .waits .ensures in (
+      omega (arith, n, w, c .before .if1 .taken, mod-le (a .args .t .n - 2) (blockLength (a .args .mode))),
+      omega (arith, a .pre .1 .calls),
+      a .pre .1 .long,
+      λ j h. a .pre .1 .small j (omega (arith, a .pre .0)),
+    )
 
 end-block-requires : tie.Need-end-block-requires
 end-block-requires c κs = search needs
@@ -44,7 +49,8 @@ unfolding judgedOf
 returns c =
     let at = c .before .before .before in
     let a = at .before .before .before in
-    let ends : waiting (a .args .mode) (a .args .t .n) + 1 ≡ blockLength (a .args .mode) = omega (arith, at .if1 .taken, at .before .block-length .ensures, at .before .before .waits .ensures) in
+    let ends : waiting (a .args .mode) (a .args .t .n) + 1 ≡ blockLength (a .args .mode) = omega
+    (arith, at .if1 .taken, at .before .block-length .ensures, at .before .before .waits .ensures) in
     simp (eq-eqb _ _ ends, c .end-block .ensures, c .before .block-of .ensures)
 
 returns-2 : tie.Need-returns-2
@@ -52,8 +58,11 @@ unfolding judgedOf ofBits
 returns-2 c =
     let at = c .before .before in
     let a = at .before .before .before in
-    let goes = ne-eqb (waiting (a .args .mode) (a .args .t .n) + 1) (blockLength (a .args .mode)) (λ e. at .if1 .left (omega (arith, e, at .before .block-length .ensures, at .before .before .waits .ensures))) in
+    let goes = ne-eqb (waiting (a .args .mode) (a .args .t .n) + 1) (blockLength (a .args .mode))
+    (λ e. at .if1 .left (omega (arith, e, at .before .block-length .ensures, at .before .before .waits .ensures))) in
     simp (goes, c .before .follow .ensures, c .unpushed .ensures)
 
 pub judge-spec : {M : Type 1} → statement M
-judge-spec = tie.close (tie.spec waits-requires add-if1 block-length-requires sub-block-of block-of-requires end-block-requires follow-requires unpushed-requires returns returns-2)
+judge-spec = tie.close
+    (tie.spec waits-requires add-if1 block-length-requires sub-block-of block-of-requires end-block-requires follow-requires unpushed-requires returns
+    returns-2)

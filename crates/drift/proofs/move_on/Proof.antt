@@ -4,7 +4,7 @@ use borrow.Author.Needs.{needs}
 use borrow.Author.Tests.{lt-ltb, le-ltb}
 use lib.Ieee.{ofBits}
 use Rattle.drift.proofs.Words.{back}
-use Rattle.drift.specs.Tracker.{moved}
+use Rattle.drift.specs.Call.{moved}
 use Rattle.drift.proofs.move_on.Statement.{statement}
 use Rattle.drift.proofs.move_on.Tie as tie
 

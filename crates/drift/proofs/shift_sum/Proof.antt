@@ -7,7 +7,7 @@ use native.Mathlib.Omega.{arith}
 use borrow.Author.Needs.{needs}
 use lib.IntN.{ℤ, pos, natAbs, _+ℤ_}
 use lib.ListN.{getD}
-use Rattle.drift.proofs.Further.{run-further}
+use Rattle.ieee.proofs.Folds.{run-further}
 use Rattle.drift.proofs.Words.{back, small-fits}
 use Rattle.ieee.proofs.Integers.{abs-add}
 use Rattle.ieee.specs.Whole.{run}
@@ -57,8 +57,13 @@ loop-again c =
     let z = getD (a .args .stored .now) (a .args .first + at .loop .j) (pos 0) in
     let small = a .pre .2 (a .args .first + at .loop .j) (omega arith) in
     let size = abs-add (toZ w32 (at .loop .acc)) z in
-    let whole = ap (λ (y : ℤ). toZ w32 (ofZ w32 (toZ w32 (at .loop .acc) +ℤ y))) (back z (omega (arith, small))) ∙ back (toZ w32 (at .loop .acc) +ℤ z) (omega (arith, small, size)) in
-    (omega arith, whole ∙ run-further _+ℤ_ (pos 0) _ (at .loop .j) (at .loop .inv .1), subst⁻¹ (λ (y : ℤ). natAbs y ≤ 2048 * (at .loop .j + 1)) whole (omega (arith, small, size)))
+    let whole = ap (λ (y : ℤ). toZ w32 (ofZ w32 (toZ w32 (at .loop .acc) +ℤ y))) (back z (omega (arith, small))) ∙ back (toZ w32 (at .loop .acc) +ℤ z)
+    (omega (arith, small, size)) in (
+      omega arith,
+      whole ∙ run-further _+ℤ_ (pos 0) _ (at .loop .j) (at .loop .inv .1),
+      subst⁻¹ (λ (y : ℤ). natAbs y ≤ 2048 * (at .loop .j + 1)) whole
+          (omega (arith, small, size)),
+    )
 
 returns : tie.Need-returns Inv-loop μ-loop
 returns c =

@@ -8,22 +8,25 @@ use borrow.Author.Needs.{needs}
 use lib.Dec.{leb}
 use lib.IntN.{ℤ}
 use lib.ListN.{set}
-use Rattle.drift.proofs.Accepted.{Accepted, accepted-says, ready}
-use Rattle.drift.proofs.Handed.{steps-refused, steps-done}
+use Rattle.tracker.proofs.Accepted.{Accepted, accepted-says}
+use Rattle.drift.proofs.Handed.{ready, steps-refused, steps-done}
 use Rattle.drift.proofs.Words.{back}
-use Rattle.drift.specs.Inside.{fittedIn, answerIn, Ready}
-use Rattle.drift.specs.Tracker.{settled, moved, meaning}
-use Rattle.drift.specs.declared.Gathered.{Gathered}
-use Rattle.drift.specs.declared.Sample.{Sample}
-use Rattle.drift.specs.declared.Tracker.{Tracker}
+use Rattle.fit.specs.Inside.{fittedIn}
+use Rattle.tracker.specs.Inside.{answerIn}
+use Rattle.drift.specs.Inside.{Ready}
+use Rattle.tracker.specs.Rule.{inWholeBlocks, meaning}
+use Rattle.drift.specs.Call.{moved}
+use Rattle.blocks.specs.declared.Gathered.{Gathered}
+use Rattle.tracker.specs.declared.Sample.{Sample}
+use Rattle.tracker.specs.declared.Tracker.{Tracker}
 use Rattle.util.specs.Refusal.{accepted}
 use Rattle.drift.proofs.step.Statement.{statement}
 use Rattle.drift.proofs.step.Tie as tie
 
 -- `tested` answered Done
 taken : (mode : ℕ) (t : Tracker) (shifts : List ℤ) (room : ℕ) (g : Gathered) (s : Sample) → answerIn mode t shifts room g s ≡ accepted tt
-    → Accepted mode t shifts room s (leb (g .top) (2 * settled mode (t .n))) (g .good)
-taken mode t shifts room g s e = accepted-says mode t shifts room s (leb (g .top) (2 * settled mode (t .n))) (g .good) e
+    → Accepted mode t shifts room s (leb (g .top) (2 * inWholeBlocks mode (t .n))) (g .good)
+taken mode t shifts room g s e = accepted-says mode t shifts room s (leb (g .top) (2 * inWholeBlocks mode (t .n))) (g .good) e
 
 tested-requires : tie.Need-tested-requires
 tested-requires c κs = search needs
@@ -37,20 +40,23 @@ enum-told c = search needs
 mul-z : tie.Need-mul-z
 mul-z c =
     let a = c .before .before .before .before .before .args in
-    let ok = taken (a .mode) (a .t) (a .shifts .now) (a .room) (a .g) (a .s) (sym (c .before .before .before .tested .ensures) ∙ ap meaning (c .before .enum-told .given .1)) in
+    let ok = taken (a .mode) (a .t) (a .shifts .now) (a .room) (a .g) (a .s)
+    (sym (c .before .before .before .tested .ensures) ∙ ap meaning (c .before .enum-told .given .1)) in
     record { fits = omega (arith, ok .calls) }
 
 slice-set-from-z : tie.Need-slice-set-from-z
 slice-set-from-z c =
     let a = c .before .before .before .before .before .args in
-    let ok = taken (a .mode) (a .t) (a .shifts .now) (a .room) (a .g) (a .s) (sym (c .before .before .before .tested .ensures) ∙ ap meaning (c .before .enum-told .given .1)) in
+    let ok = taken (a .mode) (a .t) (a .shifts .now) (a .room) (a .g) (a .s)
+    (sym (c .before .before .before .tested .ensures) ∙ ap meaning (c .before .enum-told .given .1)) in
     omega (arith, ok .calls, ok .long)
 
 move-on-requires : tie.Need-move-on-requires
 move-on-requires c κs =
     let at = c .before .before in
     let a = at .before .before .before .before .args in
-    let ok = taken (a .mode) (a .t) (a .shifts .now) (a .room) (a .g) (a .s) (sym (at .before .before .tested .ensures) ∙ ap meaning (at .enum-told .given .1)) in
+    let ok = taken (a .mode) (a .t) (a .shifts .now) (a .room) (a .g) (a .s)
+    (sym (at .before .before .tested .ensures) ∙ ap meaning (at .enum-told .given .1)) in
     let start = ready (a .mode) (a .t) (a .shifts .now) (a .room) (a .s) _ _ ok in
     subst⁻¹ (λ (z : ℤ). Ready (a .t) (set (a .shifts .now) (a .t .n) z)) (back (a .t .shift) (omega (arith, start .shift))) start
 
@@ -78,8 +84,11 @@ returns-2 c =
     let start = ready (a .mode) (a .t) (a .shifts .now) (a .room) (a .s) _ _ ok in
     let same = back (a .t .shift) (omega (arith, start .shift)) in
     steps-done (a .mode) (a .t) (a .shifts .now) (a .room) (a .g) (a .s) (c .before .before .before .move-on .result) _ _ e
-    (c .before .before .before .move-on .ensures ∙ ap (λ (z : ℤ). moved (a .mode) (a .t) (set (a .shifts .now) (a .t .n) z) (a .s) (fittedIn (a .mode) (a .g) (a .t .blocks))) same)
+    (c .before .before .before .move-on .ensures
+    ∙ ap (λ (z : ℤ). moved (a .mode) (a .t) (set (a .shifts .now) (a .t .n) z) (a .s) (fittedIn (a .mode) (a .g) (a .t .blocks))) same)
     (c .place-for .ensures) (ap (λ (z : ℤ). set (a .shifts .now) (a .t .n) z) same)
 
 pub step-spec : {M : Type 1} → statement M
-step-spec = tie.close (tie.spec tested-requires enum-known-answer enum-told mul-z slice-set-from-z move-on-requires place-for-requires same-length returns same-length-2 returns-2)
+step-spec = tie.close
+    (tie.spec tested-requires enum-known-answer enum-told mul-z slice-set-from-z move-on-requires place-for-requires same-length returns same-length-2
+    returns-2)

@@ -28,7 +28,14 @@ same-length-4 : tie.Need-same-length-4
 same-length-4 c = search needs
 
 returns : tie.Need-returns
-returns c = (c .before .before .before .before .before .before .before .before .before .before .before .before .before .before .clear .ensures, (c .before .before .before .before .before .before .before .before .before .before .clear2 .ensures, (c .before .before .before .before .before .before .clear3 .ensures, c .before .before .clear-decisions .ensures)))
+returns c =
+    let fourth = c .before .before in
+    let third = fourth .before .before .before .before in
+    let second = third .before .before .before .before in
+    let first = second .before .before .before .before in
+    (first .clear .ensures, (second .clear2 .ensures, (third .clear3 .ensures, fourth .clear-decisions .ensures)))
 
 pub cleared-spec : {M : Type 1} → statement M
-cleared-spec = tie.close (tie.spec clear-requires clear-requires-2 clear-requires-3 clear-decisions-requires same-length same-length-2 same-length-3 same-length-4 returns)
+cleared-spec =
+    tie.close
+    (tie.spec clear-requires clear-requires-2 clear-requires-3 clear-decisions-requires same-length same-length-2 same-length-3 same-length-4 returns)

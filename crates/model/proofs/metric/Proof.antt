@@ -67,4 +67,8 @@ returns c =
     sym (five-terms (add binary32) plusZero (λ i. getD (a .terms .now) i nan) (a .symbol) (a .e) _ (omega arith) refl)
 
 pub metric-spec : {M : Type 1} → statement M
-metric-spec = tie.close (tie.spec mul-at sub-at add-at mul-result shared-slice-read-result add-result mul-result-2 shared-slice-read-result-2 add-result-2 mul-result-3 shared-slice-read-result-3 add-result-3 mul-result-4 shared-slice-read-result-4 add-result-4 mul-result-5 shared-slice-read-result-5 returns)
+metric-spec =
+    tie.close
+    (tie.spec mul-at sub-at add-at mul-result shared-slice-read-result add-result mul-result-2
+    shared-slice-read-result-2 add-result-2 mul-result-3 shared-slice-read-result-3 add-result-3 mul-result-4
+    shared-slice-read-result-4 add-result-4 mul-result-5 shared-slice-read-result-5 returns)

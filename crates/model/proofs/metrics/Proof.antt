@@ -58,10 +58,12 @@ loop-again c =
     let a = at .before .before .args in
     let inv = at .loop .inv in
     let v = at .loop .v in
-    let place : c .before .place .result ≡ placeOf (binOf (a .bins) (a .h) v) = c .before .place .ensures ∙ ap placeOf (c .before .before .tone-bin .ensures) in (
+    let place : c .before .place .result ≡ placeOf (binOf (a .bins) (a .h) v) =
+    c .before .place .ensures ∙ ap placeOf (c .before .before .tone-bin .ensures) in (
       omega arith,
       length-set (at .loop .out) v (c .metric .result) ∙ inv .1,
-      up-done (at .loop .out) v (c .metric .result) nan (λ k. metricOf (add binary32) plusZero (λ i. getD (a .terms .now) i nan) (a .symbol) (placeOf (binOf (a .bins) (a .h) k))) (omega arith)
+      up-done (at .loop .out) v (c .metric .result) nan
+          (λ k. metricOf (add binary32) plusZero (λ i. getD (a .terms .now) i nan) (a .symbol) (placeOf (binOf (a .bins) (a .h) k))) (omega arith)
           (c .metric .ensures ∙ ap (metricOf (add binary32) plusZero (λ i. getD (a .terms .now) i nan) (a .symbol)) place) (inv .2),
     )
 
@@ -69,4 +71,7 @@ returns : tie.Need-returns Inv-loop μ-loop
 returns c = (c .before .loop .inv .1, λ v h. c .before .loop .inv .2 v (omega arith))
 
 pub metrics-spec : {M : Type 1} → statement M
-metrics-spec = tie.close (tie.spec Inv-loop μ-loop loop-holds tone-bin-requires place-requires metric-requires mul-out array-write-out add-v loop-less loop-again returns)
+metrics-spec =
+    tie.close
+    (tie.spec Inv-loop μ-loop loop-holds tone-bin-requires place-requires metric-requires mul-out array-write-out
+    add-v loop-less loop-again returns)

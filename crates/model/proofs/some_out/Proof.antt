@@ -34,7 +34,8 @@ out-of-range-requires c κs = search needs
 returns : tie.Need-returns Inv-loop μ-loop
 returns c =
     let at = c .before .before .before .before in
-    some-here outOfRange (at .before .before .args .terms .now) (at .loop .i) (at .loop .inv .1) nan (omega arith) (sym (c .before .out-of-range .ensures) ∙ c .if1 .taken)
+    some-here outOfRange (at .before .before .args .terms .now) (at .loop .i) (at .loop .inv .1) nan (omega arith)
+    (sym (c .before .out-of-range .ensures) ∙ c .if1 .taken)
 
 add-i : tie.Need-add-i Inv-loop μ-loop
 add-i c = search needs
@@ -45,7 +46,8 @@ loop-less c = search needs
 loop-again : tie.Need-loop-again Inv-loop μ-loop
 loop-again c =
     let at = c .before .before .before .before in
-    (omega arith, not-here outOfRange (at .before .before .args .terms .now) (at .loop .i) (at .loop .inv .1) nan (omega arith) (sym (c .before .out-of-range .ensures) ∙ c .if1 .left))
+    let out = sym (c .before .out-of-range .ensures) ∙ c .if1 .left in
+    (omega arith, not-here outOfRange (at .before .before .args .terms .now) (at .loop .i) (at .loop .inv .1) nan (omega arith) out)
 
 returns-2 : tie.Need-returns-2 Inv-loop μ-loop
 returns-2 c =
@@ -53,4 +55,7 @@ returns-2 c =
     none-left outOfRange (at .before .before .args .terms .now) (at .loop .i) (at .loop .inv .1) (omega arith)
 
 pub some-out-spec : {M : Type 1} → statement M
-some-out-spec = tie.close (tie.spec Inv-loop μ-loop loop-holds mul-out-of-range shared-slice-read-out-of-range out-of-range-requires returns add-i loop-less loop-again returns-2)
+some-out-spec =
+    tie.close
+    (tie.spec Inv-loop μ-loop loop-holds mul-out-of-range shared-slice-read-out-of-range out-of-range-requires returns
+    add-i loop-less loop-again returns-2)

@@ -8,7 +8,7 @@ use borrow.Author.Needs.{needs}
 use lib.Ieee.{nan, ofBits}
 use lib.ListN.{length, getD, length-set}
 use Rattle.ieee.specs.Whole.{plusZero}
-use Rattle.search.proofs.Fill.{filled}
+use Rattle.util.proofs.Fill.{filled}
 use Rattle.util.proofs.Fill.{up-done}
 use Rattle.search.proofs.clear.Statement.{statement}
 use Rattle.search.proofs.clear.Tie as tie
@@ -38,8 +38,11 @@ loop-less c = search needs
 loop-again : tie.Need-loop-again Inv-loop μ-loop
 unfolding ofBits
 loop-again c =
-    let at = c .before in
-    (omega arith, length-set (at .loop .area) (at .loop .s) plusZero ∙ at .loop .inv .1, up-done (at .loop .area) (at .loop .s) plusZero nan (λ _. plusZero) (omega arith) refl (at .loop .inv .2))
+    let at = c .before .loop in (
+      omega arith,
+      length-set (at .area) (at .s) plusZero ∙ at .inv .1,
+      up-done (at .area) (at .s) plusZero nan (λ _. plusZero) (omega arith) refl (at .inv .2),
+    )
 
 same-length : tie.Need-same-length Inv-loop μ-loop
 same-length c = c .before .loop .inv .1
@@ -50,4 +53,6 @@ returns c =
     filled (c .before .loop .area) (length (c .before .before .args .area .now)) plusZero nan (inv .1) (λ k h. inv .2 k (omega arith))
 
 pub clear-spec : {M : Type 1} → statement M
-clear-spec = tie.close (tie.spec Inv-loop μ-loop loop-holds mul-area slice-write-area add-s loop-less loop-again same-length returns)
+clear-spec =
+    tie.close
+    (tie.spec Inv-loop μ-loop loop-holds mul-area slice-write-area add-s loop-less loop-again same-length returns)

@@ -6,7 +6,7 @@ use native.Mathlib.Nat.{not-suc-le-zero}
 use native.Mathlib.Omega.{arith}
 use borrow.Author.Needs.{needs}
 use lib.ListN.{length, getD, length-set}
-use Rattle.search.proofs.Fill.{filled}
+use Rattle.util.proofs.Fill.{filled}
 use Rattle.util.proofs.Fill.{up-done}
 use Rattle.search.proofs.clear_decisions.Statement.{statement}
 use Rattle.search.proofs.clear_decisions.Tie as tie
@@ -35,8 +35,11 @@ loop-less c = search needs
 
 loop-again : tie.Need-loop-again Inv-loop μ-loop
 loop-again c =
-    let at = c .before in
-    (omega arith, length-set (at .loop .area) (at .loop .i) 0 ∙ at .loop .inv .1, up-done (at .loop .area) (at .loop .i) 0 0 (λ _. 0) (omega arith) refl (at .loop .inv .2))
+    let at = c .before .loop in (
+      omega arith,
+      length-set (at .area) (at .i) 0 ∙ at .inv .1,
+      up-done (at .area) (at .i) 0 0 (λ _. 0) (omega arith) refl (at .inv .2),
+    )
 
 same-length : tie.Need-same-length Inv-loop μ-loop
 same-length c = c .before .loop .inv .1
@@ -47,4 +50,6 @@ returns c =
     filled (c .before .loop .area) (length (c .before .before .args .area .now)) 0 0 (inv .1) (λ k h. inv .2 k (omega arith))
 
 pub clear-decisions-spec : {M : Type 1} → statement M
-clear-decisions-spec = tie.close (tie.spec Inv-loop μ-loop loop-holds mul-area slice-write-area add-i loop-less loop-again same-length returns)
+clear-decisions-spec =
+    tie.close
+    (tie.spec Inv-loop μ-loop loop-holds mul-area slice-write-area add-i loop-less loop-again same-length returns)

@@ -4,8 +4,8 @@ use mathlib.Core.Path.{_≡_, sym, _∙_}
 use borrow.Author.Needs.{needs}
 use borrow.Author.Tests.{eq-eqb, ne-eqb, not-true, not-false}
 use lib.Dec.{eqb}
-use Rattle.search.specs.Areas.{packed}
-use Rattle.search.specs.Found.{kept}
+use Rattle.pass.specs.Areas.{packed}
+use Rattle.search.specs.Found.{bestIs}
 use Rattle.search.specs.Scan.{considered}
 use Rattle.trellis.specs.Numbers.{single}
 use Rattle.trellis.specs.Search.{traceStart, beats}
@@ -19,7 +19,7 @@ returns : tie.Need-returns
 unfolding considered
 returns c =
     let a = c .before .before .before .args in
-    let b : beats single (kept (a .best)) (a .gain) ≡ false = sym (c .before .beats .ensures) ∙ not-true _ (c .if1 .taken) in
+    let b : beats single (bestIs (a .best)) (a .gain) ≡ false = sym (c .before .beats .ensures) ∙ not-true _ (c .if1 .taken) in
     simp (b, and-false)
 
 trace-requires : tie.Need-trace-requires
@@ -30,7 +30,8 @@ unfolding considered
 returns-2 c =
     let a = c .before .before .before .before .before .before .args in
     let t = c .before .before .trace in
-    let b : beats single (kept (a .best)) (a .gain) ≡ true = sym (c .before .before .before .before .beats .ensures) ∙ not-false _ (c .before .before .before .if1 .left) in
+    let b : beats single (bestIs (a .best)) (a .gain) ≡ true =
+    sym (c .before .before .before .before .beats .ensures) ∙ not-false _ (c .before .before .before .if1 .left) in
     let e : eqb (traceStart 16384 (packed (a .decisions .now)) (a .steps) (a .s)) (a .s) ≡ true = eq-eqb _ _ (sym (t .ensures .1) ∙ c .if2 .taken) in
     simp (b, e, t .ensures .0)
 

@@ -27,8 +27,10 @@ returns c =
     let at = c .before .before .before .before .before .before .before .before in
     let end = c .before .before .before .end-state in
     let t = c .before .trace in
-    passed (at .args .metrics .now) (at .args .start .now) (at .args .ends .now) (at .args .decisions .now) (end .result) (t .result .word) (t .result .start)
+    passed (at .args .metrics .now) (at .args .start .now) (at .args .scores .now) (at .args .decisions .now) (end .result) (t .result .word) (t .result .start)
     (at .pre .1 .1) (end .ensures .0) (end .ensures .1) (t .ensures .0) (t .ensures .1)
 
 pub found-by-spec : {M : Type 1} → statement M
-found-by-spec = tie.close (tie.spec end-state-requires mul-top shared-slice-read-top trace-requires mul-t9 shared-slice-read-t11 returns)
+found-by-spec =
+    tie.close
+    (tie.spec end-state-requires mul-top shared-slice-read-top trace-requires mul-t9 shared-slice-read-t11 returns)

@@ -7,34 +7,34 @@ use native.Mathlib.Omega.{arith}
 use borrow.Author.Needs.{needs}
 use lib.Ieee.{Float, nan, sub, binary32}
 use lib.ListN.{length, length-set}
-use Rattle.search.proofs.Fill.{up-kept}
-use Rattle.search.specs.Areas.{table}
+use Rattle.util.proofs.Fill.{up-kept}
+use Rattle.pass.specs.Areas.{table}
 use Rattle.util.proofs.Fill.{up-done}
 use Rattle.search.proofs.lower.Statement.{statement}
 use Rattle.search.proofs.lower.Tie as tie
 
 abbrev Inv-loop : tie.InvT-loop
-Inv-loop ends₀ top s₀ ends s =
-    (s ≤ 16384) × (length ends ≡ 16384) × ((k : ℕ) → k < s → table ends k ≡ sub binary32 (table ends₀ k) top)
-    × ((k : ℕ) → s ≤ k → table ends k ≡ table ends₀ k)
+Inv-loop scores₀ top s₀ scores s =
+    (s ≤ 16384) × (length scores ≡ 16384) × ((k : ℕ) → k < s → table scores k ≡ sub binary32 (table scores₀ k) top)
+    × ((k : ℕ) → s ≤ k → table scores k ≡ table scores₀ k)
 
 abbrev μ-loop : tie.MeasureT-loop
-μ-loop ends₀ top s₀ ends s = 16384 - s
+μ-loop scores₀ top s₀ scores s = 16384 - s
 
 loop-holds : tie.Need-loop-holds Inv-loop μ-loop
 loop-holds c = (omega arith, c .pre, (λ k h. absurd (not-suc-le-zero h)), (λ k h. refl))
 
-mul-ends : tie.Need-mul-ends Inv-loop μ-loop
-mul-ends c = search needs
+mul-scores : tie.Need-mul-scores Inv-loop μ-loop
+mul-scores c = search needs
 
-slice-read-ends : tie.Need-slice-read-ends Inv-loop μ-loop
-slice-read-ends c = search needs
+slice-read-scores : tie.Need-slice-read-scores Inv-loop μ-loop
+slice-read-scores c = search needs
 
-mul-ends-2 : tie.Need-mul-ends-2 Inv-loop μ-loop
-mul-ends-2 c = search needs
+mul-scores-2 : tie.Need-mul-scores-2 Inv-loop μ-loop
+mul-scores-2 c = search needs
 
-slice-write-ends : tie.Need-slice-write-ends Inv-loop μ-loop
-slice-write-ends c = search needs
+slice-write-scores : tie.Need-slice-write-scores Inv-loop μ-loop
+slice-write-scores c = search needs
 
 add-s : tie.Need-add-s Inv-loop μ-loop
 add-s c = search needs
@@ -48,11 +48,12 @@ loop-again c =
     let a = at .before .args in
     let inv = at .loop .inv in
     let s = at .loop .s in
-    let x = sub binary32 (table (at .loop .ends) s) (a .top) in (
+    let x = sub binary32 (table (at .loop .scores) s) (a .top) in (
       omega arith,
-      length-set (at .loop .ends) s x ∙ inv .1,
-      up-done (at .loop .ends) s x nan (λ k. sub binary32 (table (a .ends .now) k) (a .top)) (omega arith) (ap (λ (y : Float). sub binary32 y (a .top)) (inv .3 s (le-refl s))) (inv .2),
-      up-kept (at .loop .ends) s x nan (a .ends .now) (inv .3),
+      length-set (at .loop .scores) s x ∙ inv .1,
+      up-done (at .loop .scores) s x nan (λ k. sub binary32 (table (a .scores .now) k) (a .top)) (omega arith)
+          (ap (λ (y : Float). sub binary32 y (a .top)) (inv .3 s (le-refl s))) (inv .2),
+      up-kept (at .loop .scores) s x nan (a .scores .now) (inv .3),
     )
 
 same-length : tie.Need-same-length Inv-loop μ-loop
@@ -62,4 +63,7 @@ returns : tie.Need-returns Inv-loop μ-loop
 returns c = record { size = c .before .loop .inv .1; at = λ s h. c .before .loop .inv .2 s (omega arith) }
 
 pub lower-spec : {M : Type 1} → statement M
-lower-spec = tie.close (tie.spec Inv-loop μ-loop loop-holds mul-ends slice-read-ends mul-ends-2 slice-write-ends add-s loop-less loop-again same-length returns)
+lower-spec =
+    tie.close
+    (tie.spec Inv-loop μ-loop loop-holds mul-scores slice-read-scores mul-scores-2 slice-write-scores add-s loop-less
+    loop-again same-length returns)

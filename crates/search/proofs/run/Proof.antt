@@ -5,9 +5,19 @@ use borrow.Author.Needs.{needs}
 use lib.Ieee.{Float}
 use lib.ListN.{length}
 use Rattle.search.proofs.Passes.{ran-same, passed-same}
-use Rattle.search.specs.Areas.{table}
+use Rattle.pass.specs.Areas.{table}
 use Rattle.search.proofs.run.Statement.{statement}
 use Rattle.search.proofs.run.Tie as tie
+
+-- back from a place to the pass that has run, to the copy before it, and to the entry
+abbrev ran : tie.After-found-by-arg3 → tie.After-pass
+ran c = c .before .before .before .before .before .before .before .before .before
+
+abbrev copied : tie.After-pass → tie.After-copy
+copied c = c .before .before .before .before .before .before
+
+abbrev entry : tie.After-copy → tie.Start
+entry c = c .before .before .before .before .before .before .before .before
 
 copy-requires : tie.Need-copy-requires
 copy-requires c κs = search needs
@@ -17,11 +27,15 @@ pass-requires c κs = search needs
 
 found-by-requires : tie.Need-found-by-requires
 found-by-requires c κs =
-    let at = c .before .before .before .before .before .before .before .before .before .before .before .before .before .before .before .before .before .before .before .before .before .before .before in
-    let ran = c .before .before .before .before .before .before .before .before .before .pass .ensures in
-    let copied = c .before .before .before .before .before .before .before .before .before .before .before .before .before .before .before .copy .ensures in
-    let m = at .args .metrics .now in
-    (at .pre .steps, ((ap length copied ∙ at .pre .of-ends, ran .1 .1), ran-same m (λ s h. ap (λ (l : List Float). table l s) (sym copied)) (ran .0)))
+    let r = ran c in
+    let e = copied r .copy .ensures in
+    let at = entry (copied r) in (
+      at .pre .steps,
+      (
+        (ap length e ∙ at .pre .of-scores, r .pass .ensures .1 .1),
+        ran-same (at .args .metrics .now) (λ s h. ap (λ (l : List Float). table l s) (sym e)) (r .pass .ensures .0),
+      ),
+    )
 
 same-length : tie.Need-same-length
 same-length c = search needs
@@ -37,16 +51,23 @@ same-length-4 c = search needs
 
 returns : tie.Need-returns
 returns c =
-    let at = c .before .before .before .before .before .before .before .before .before .before .before .before .before .before .before .before .before .before .before .before .before .before .before .before in
-    let ran = c .before .before .before .before .before .before .before .before .before .before .pass .ensures in
-    let copied = c .before .before .before .before .before .before .before .before .before .before .before .before .before .before .before .before .copy .ensures in
-    let m = at .args .metrics .now in (
-      passed-same m (λ s h. ap (λ (l : List Float). table l s) copied) (c .found-by .ensures),
+    let r = ran (c .before) in
+    let e = copied r .copy .ensures in
+    let at = entry (copied r) in (
+      passed-same (at .args .metrics .now) (λ s h. ap (λ (l : List Float). table l s) e) (c .found-by .ensures),
       (
-        copied,
-        record { steps = at .pre .steps; of-ends = ran .0 .held .size; of-second = ran .1 .0; of-start = ap length copied ∙ at .pre .of-ends; of-decisions = ran .1 .1 },
+        e,
+        record {
+          steps = at .pre .steps;
+          of-scores = r .pass .ensures .0 .held .size;
+          of-next = r .pass .ensures .1 .0;
+          of-start = ap length e ∙ at .pre .of-scores;
+          of-decisions = r .pass .ensures .1 .1;
+        },
       ),
     )
 
 pub run-spec : {M : Type 1} → statement M
-run-spec = tie.close (tie.spec copy-requires pass-requires found-by-requires same-length same-length-2 same-length-3 same-length-4 returns)
+run-spec =
+    tie.close
+    (tie.spec copy-requires pass-requires found-by-requires same-length same-length-2 same-length-3 same-length-4 returns)

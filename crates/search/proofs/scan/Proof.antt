@@ -7,19 +7,19 @@ use native.Mathlib.Numerals.{add-one}
 use native.Mathlib.Omega.{arith}
 use borrow.Author.Needs.{needs}
 use lib.Ieee.{Float, sub, binary32}
-use Rattle.search.specs.Areas.{table, packed}
-use Rattle.search.specs.Found.{kept}
+use Rattle.pass.specs.Areas.{table, packed}
+use Rattle.search.specs.Found.{bestIs}
 use Rattle.search.specs.Scan.{considered, scanned}
 use Rattle.trellis.specs.Search.{Candidate}
 use Rattle.search.proofs.scan.Statement.{statement}
 use Rattle.search.proofs.scan.Tie as tie
 
 abbrev Inv-loop : tie.InvT-loop
-Inv-loop decisions steps ends start best₀ s₀ best s =
-    (s ≤ 16384) × (kept best ≡ scanned (packed decisions) steps (table ends) (table start) (kept best₀) s)
+Inv-loop decisions steps scores start best₀ s₀ best s =
+    (s ≤ 16384) × (bestIs best ≡ scanned (packed decisions) steps (table scores) (table start) (bestIs best₀) s)
 
 abbrev μ-loop : tie.MeasureT-loop
-μ-loop decisions steps ends start best₀ s₀ best s = 16384 - s
+μ-loop decisions steps scores start best₀ s₀ best s = 16384 - s
 
 loop-holds : tie.Need-loop-holds Inv-loop μ-loop
 unfolding scanned
@@ -51,10 +51,11 @@ unfolding scanned
 loop-again c =
     let at = c .before .before .before .before in
     let a = at .before .before .before .before .args in
-    let s = at .loop .s in (
+    let s = at .loop .s in
+    let gain = sub binary32 (table (a .scores .now) s) (table (a .start .now) s) in (
       omega arith,
       rw add-one (c .consider .ensures
-          ∙ ap (λ (b : Option (Candidate Float)). considered (packed (a .decisions .now)) (a .steps) b (sub binary32 (table (a .ends .now) s) (table (a .start .now) s)) s) (at .loop .inv .1)),
+          ∙ ap (λ (b : Option (Candidate Float)). considered (packed (a .decisions .now)) (a .steps) b gain s) (at .loop .inv .1)),
     )
 
 returns : tie.Need-returns Inv-loop μ-loop
@@ -63,4 +64,7 @@ returns c =
     rw all at (c .before .loop .inv .1)
 
 pub scan-spec : {M : Type 1} → statement M
-scan-spec = tie.close (tie.spec Inv-loop μ-loop loop-holds mul-consider shared-slice-read-consider mul-consider-2 shared-slice-read-consider-2 consider-requires add-s loop-less loop-again returns)
+scan-spec =
+    tie.close
+    (tie.spec Inv-loop μ-loop loop-holds mul-consider shared-slice-read-consider mul-consider-2
+    shared-slice-read-consider-2 consider-requires add-s loop-less loop-again returns)

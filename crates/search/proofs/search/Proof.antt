@@ -1,22 +1,38 @@
 -- `search::search` meets its contract. The invariant: pass k, counted from 0, is about to begin (`Begun`). The measure is what is left of
 -- the three. Assumes nothing.
 use Prim.Native.Nat.{ℕ, suc, _-_, _≤_}
-use mathlib.Core.Path.{_≡_, refl, sym, ap, _∙_}
+use mathlib.Core.Path.{_≡_, refl, ap, _∙_}
 use native.Mathlib.Numerals.{add-one}
 use native.Mathlib.Omega.{arith}
 use borrow.Author.Needs.{needs}
-use Rattle.search.proofs.Rounds.{Begun, first, out, counted, next, over-all}
-use Rattle.search.specs.Areas.{stepsIn}
+use Rattle.pass.specs.Areas.{stepsIn}
+use Rattle.search.proofs.Lengths.{same-lengths}
+use Rattle.search.proofs.Rounds.{Begun, first, out, counted, next-begins, over-all}
 use Rattle.trellis.specs.Search.{closing}
 use Rattle.search.proofs.search.Statement.{statement}
 use Rattle.search.proofs.search.Tie as tie
 
 abbrev Inv-loop : tie.InvT-loop
-Inv-loop metrics ends₀ second₀ start₀ decisions₀ steps best₀ pass₀ ends second start decisions best pass =
-    (steps ≡ stepsIn metrics) × (k : ℕ) × (pass ≡ suc k) × Begun metrics ends second start decisions best k
+Inv-loop metrics scores₀ next₀ start₀ decisions₀ steps best₀ pass₀ scores next start decisions best pass =
+    (steps ≡ stepsIn metrics) × (k : ℕ) × (pass ≡ suc k) × Begun metrics scores next start decisions best k
 
 abbrev μ-loop : tie.MeasureT-loop
-μ-loop metrics ends₀ second₀ start₀ decisions₀ steps best₀ pass₀ ends second start decisions best pass = 3 - pass
+μ-loop metrics scores₀ next₀ start₀ decisions₀ steps best₀ pass₀ scores next start decisions best pass = 3 - pass
+
+-- ---- back from a place to the pass that has run, to where it was about to begin, and to the entry
+abbrev ran : tie.After-slice-known9 Inv-loop μ-loop → tie.After-run Inv-loop μ-loop
+ran c = c .before .before .before .before .before .before .before .before
+
+abbrev unclosed : tie.After-scan Inv-loop μ-loop → tie.Else1 Inv-loop μ-loop
+unclosed c = c .before .before .before .before
+
+abbrev begun : tie.After-run Inv-loop μ-loop → tie.At-loop Inv-loop μ-loop
+begun c = c .before .before .before .before .before
+
+abbrev entry : tie.After-run Inv-loop μ-loop → tie.Start Inv-loop μ-loop
+entry c = begun c .before .before .before .before .before .before .before .before .before .before
+
+-- ----
 
 clear-requires : tie.Need-clear-requires Inv-loop μ-loop
 clear-requires c κs = search needs
@@ -24,96 +40,106 @@ clear-requires c κs = search needs
 loop-holds : tie.Need-loop-holds Inv-loop μ-loop
 loop-holds c =
     let at = c .before .before .before .before .before .before .before .before .before in
-    let cleared = c .before .before .clear .ensures in
-    (refl, 0, refl, first (at .pre) cleared)
+    (refl, 0, refl, first (at .pre) (c .before .before .clear .ensures))
 
 run-requires : tie.Need-run-requires Inv-loop μ-loop
 run-requires c κs = c .before .before .before .before .loop .inv .3 .lent
 
 same-length : tie.Need-same-length Inv-loop μ-loop
-same-length c =
-    let lent = c .before .before .before .before .before .before .before .before .before .run .ensures .1 .1 in
-    lent .of-ends ∙ sym (c .before .before .before .before .before .before .before .before .before .before .before .before .before .before .before .before .before .before .before .before .before .before .before .before .pre .of-ends)
+same-length c = let r = ran (c .before) in same-lengths (entry r .pre) (r .run .ensures .1 .1) .of-scores
 
 same-length-2 : tie.Need-same-length-2 Inv-loop μ-loop
-same-length-2 c =
-    let lent = c .before .before .before .before .before .before .before .before .before .run .ensures .1 .1 in
-    lent .of-second ∙ sym (c .before .before .before .before .before .before .before .before .before .before .before .before .before .before .before .before .before .before .before .before .before .before .before .before .pre .of-second)
+same-length-2 c = let r = ran (c .before) in same-lengths (entry r .pre) (r .run .ensures .1 .1) .of-next
 
 same-length-3 : tie.Need-same-length-3 Inv-loop μ-loop
-same-length-3 c =
-    let lent = c .before .before .before .before .before .before .before .before .before .run .ensures .1 .1 in
-    lent .of-start ∙ sym (c .before .before .before .before .before .before .before .before .before .before .before .before .before .before .before .before .before .before .before .before .before .before .before .before .pre .of-start)
+same-length-3 c = let r = ran (c .before) in same-lengths (entry r .pre) (r .run .ensures .1 .1) .of-start
 
 same-length-4 : tie.Need-same-length-4 Inv-loop μ-loop
-same-length-4 c =
-    let lent = c .before .before .before .before .before .before .before .before .before .run .ensures .1 .1 in
-    lent .of-decisions ∙ sym (c .before .before .before .before .before .before .before .before .before .before .before .before .before .before .before .before .before .before .before .before .before .before .before .before .pre .of-decisions)
+same-length-4 c = let r = ran (c .before) in same-lengths (entry r .pre) (r .run .ensures .1 .1) .of-decisions
 
 returns : tie.Need-returns Inv-loop μ-loop
 returns c =
-    let at = c .before .before .before .before .before .before .before .before .before .before .before .before .before .before .loop in
-    let ran = c .before .before .before .before .before .before .before .before .before .run .ensures in
-    (ap (λ (n : ℕ). record { how = closing n; word = c .before .before .before .before .before .before .before .before .before .run .result .word; score = c .before .before .before .before .before .before .before .before .before .run .result .score }) (at .inv .2) ∙ out (at .inv .3) (ran .0) (c .if1 .taken), ran .1 .1)
+    let r = ran (c .before) in
+    let inv = begun r .loop .inv in
+    let t = r .run .result in (
+      ap (λ (n : ℕ). record { how = closing n; word = t .word; score = t .score }) (inv .2)
+          ∙ out (inv .3) (r .run .ensures .0) (c .if1 .taken),
+      r .run .ensures .1 .1,
+    )
 
 scan-requires : tie.Need-scan-requires Inv-loop μ-loop
 scan-requires c κs =
-    let lent = c .before .before .before .before .before .before .before .before .before .before .before .before .run .ensures .1 .1 in
-    (lent .of-ends, lent .of-start, lent .steps .few, lent .of-decisions)
+    let lent = ran (c .before .before .before .before) .run .ensures .1 .1 in
+    (lent .of-scores, lent .of-start, lent .steps .few, lent .of-decisions)
 
-settled-requires : tie.Need-settled-requires Inv-loop μ-loop
-settled-requires c κs = search needs
+best-or-last-requires : tie.Need-best-or-last-requires Inv-loop μ-loop
+best-or-last-requires c κs = search needs
 
 same-length-5 : tie.Need-same-length-5 Inv-loop μ-loop
 same-length-5 c =
-    let lent = c .before .before .before .before .before .before .before .before .before .before .before .before .before .before .before .run .ensures .1 .1 in
-    lent .of-ends ∙ sym (c .before .before .before .before .before .before .before .before .before .before .before .before .before .before .before .before .before .before .before .before .before .before .before .before .before .before .before .before .before .before .pre .of-ends)
+    let r = ran (unclosed (c .before .before) .before) in
+    same-lengths (entry r .pre) (r .run .ensures .1 .1) .of-scores
 
 same-length-6 : tie.Need-same-length-6 Inv-loop μ-loop
 same-length-6 c =
-    let lent = c .before .before .before .before .before .before .before .before .before .before .before .before .before .before .before .run .ensures .1 .1 in
-    lent .of-second ∙ sym (c .before .before .before .before .before .before .before .before .before .before .before .before .before .before .before .before .before .before .before .before .before .before .before .before .before .before .before .before .before .before .pre .of-second)
+    let r = ran (unclosed (c .before .before) .before) in
+    same-lengths (entry r .pre) (r .run .ensures .1 .1) .of-next
 
 same-length-7 : tie.Need-same-length-7 Inv-loop μ-loop
 same-length-7 c =
-    let lent = c .before .before .before .before .before .before .before .before .before .before .before .before .before .before .before .run .ensures .1 .1 in
-    lent .of-start ∙ sym (c .before .before .before .before .before .before .before .before .before .before .before .before .before .before .before .before .before .before .before .before .before .before .before .before .before .before .before .before .before .before .pre .of-start)
+    let r = ran (unclosed (c .before .before) .before) in
+    same-lengths (entry r .pre) (r .run .ensures .1 .1) .of-start
 
 same-length-8 : tie.Need-same-length-8 Inv-loop μ-loop
 same-length-8 c =
-    let lent = c .before .before .before .before .before .before .before .before .before .before .before .before .before .before .before .run .ensures .1 .1 in
-    lent .of-decisions ∙ sym (c .before .before .before .before .before .before .before .before .before .before .before .before .before .before .before .before .before .before .before .before .before .before .before .before .before .before .before .before .before .before .pre .of-decisions)
+    let r = ran (unclosed (c .before .before) .before) in
+    same-lengths (entry r .pre) (r .run .ensures .1 .1) .of-decisions
 
 returns-2 : tie.Need-returns-2 Inv-loop μ-loop
 returns-2 c =
-    let at = c .before .before .before .before .before .before .before .before .before .before .before .before .before .before .before .before .before .before .before .before .loop in
-    let ran = c .before .before .before .before .before .before .before .before .before .before .before .before .before .before .before .run .ensures in
-    let last : at .inv .1 ≡ 2 = omega (arith, at .inv .2, c .before .if2 .taken) in
-    (c .settled .ensures ∙ over-all (at .inv .3) (ran .0) (c .before .before .scan .result) (c .before .before .before .before .before .before .if1 .left) last (counted (at .inv .3) (ran .0) (c .before .before .scan .result) (ran .1 .0) (c .before .before .scan .ensures)), ran .1 .1)
+    let best = c .before .before .scan in
+    let left = unclosed (c .before .before) in
+    let r = ran (left .before) in
+    let passed = r .run .ensures in
+    let inv = begun r .loop .inv in
+    let last : inv .1 ≡ 2 = omega (arith, inv .2, c .before .if2 .taken) in
+    let so-far = counted (inv .3) (passed .0) (best .result) (passed .1 .0) (best .ensures) in
+    (c .best-or-last .ensures ∙ over-all (inv .3) (passed .0) (best .result) (left .if1 .left) last so-far, passed .1 .1)
 
 lower-requires : tie.Need-lower-requires Inv-loop μ-loop
-lower-requires c κs = c .before .before .before .before .before .before .before .before .before .before .before .before .before .before .before .run .ensures .1 .1 .of-ends
+lower-requires c κs = ran (unclosed (c .before .before) .before) .run .ensures .1 .1 .of-scores
 
 add-pass : tie.Need-add-pass Inv-loop μ-loop
-add-pass c = omega (arith, c .before .before .before .before .before .before .before .before .before .before .before .before .before .before .before .before .before .before .before .before .before .before .before .loop .inv .2, c .before .before .before .before .before .before .before .before .before .before .before .before .before .before .before .before .before .before .before .before .before .before .before .loop .inv .3 .few)
+add-pass c =
+    let inv = begun (ran (unclosed (c .before .before .before .before .before) .before)) .loop .inv in
+    omega (arith, inv .2, inv .3 .few)
 
 loop-less : tie.Need-loop-less Inv-loop μ-loop
-loop-less c = omega (arith, c .before .before .before .before .before .before .before .before .before .before .before .before .before .before .before .before .before .before .before .before .before .before .before .loop .inv .2, c .before .before .before .before .before .before .before .before .before .before .before .before .before .before .before .before .before .before .before .before .before .before .before .loop .inv .3 .few, c .before .before .before .before .if2 .left)
+loop-less c =
+    let inv = begun (ran (unclosed (c .before .before .before .before .before) .before)) .loop .inv in
+    omega (arith, inv .2, inv .3 .few, c .before .before .before .before .if2 .left)
 
 loop-again : tie.Need-loop-again Inv-loop μ-loop
 loop-again c =
-    let at = c .before .before .before .before .before .before .before .before .before .before .before .before .before .before .before .before .before .before .before .before .before .before .before .loop in
-    let ran = c .before .before .before .before .before .before .before .before .before .before .before .before .before .before .before .before .before .before .run .ensures in
-    let lent = ran .1 .1 in
-    let low = c .before .before .lower .ensures in
     let best = c .before .before .before .before .before .scan in
-    let few : suc (at .inv .1) ≤ 2 = omega (arith, at .inv .2, at .inv .3 .few, c .before .before .before .before .if2 .left) in (
+    let left = unclosed (c .before .before .before .before .before) in
+    let r = ran (left .before) in
+    let passed = r .run .ensures in
+    let inv = begun r .loop .inv in
+    let lent = passed .1 .1 in
+    let low = c .before .before .lower .ensures in
+    let few : suc (inv .1) ≤ 2 = omega (arith, inv .2, inv .3 .few, c .before .before .before .before .if2 .left) in
+    let so-far = counted (inv .3) (passed .0) (best .result) (passed .1 .0) (best .ensures) in (
       refl,
-      suc (at .inv .1),
-      add-one _ ∙ ap suc (at .inv .2),
-      next (at .inv .3) (ran .0) (best .result) (c .before .before .before .before .before .before .before .before .before .if1 .left) few (counted (at .inv .3) (ran .0) (best .result) (ran .1 .0) (best .ensures)) (low .at)
-          (record { steps = lent .steps; of-ends = low .size; of-second = lent .of-second; of-start = lent .of-start; of-decisions = lent .of-decisions }),
+      suc (inv .1),
+      add-one _ ∙ ap suc (inv .2),
+      next-begins (inv .3) (passed .0) (best .result) (left .if1 .left) few so-far (low .at)
+          (record { steps = lent .steps; of-scores = low .size; of-next = lent .of-next; of-start = lent .of-start; of-decisions = lent .of-decisions }),
     )
 
 pub search-spec : {M : Type 1} → statement M
-search-spec = tie.close (tie.spec Inv-loop μ-loop clear-requires loop-holds run-requires same-length same-length-2 same-length-3 same-length-4 returns scan-requires settled-requires same-length-5 same-length-6 same-length-7 same-length-8 returns-2 lower-requires add-pass loop-less loop-again)
+search-spec =
+    tie.close
+    (tie.spec Inv-loop μ-loop clear-requires loop-holds run-requires same-length same-length-2 same-length-3
+    same-length-4 returns scan-requires best-or-last-requires same-length-5 same-length-6 same-length-7 same-length-8
+    returns-2 lower-requires add-pass loop-less loop-again)

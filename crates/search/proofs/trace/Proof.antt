@@ -6,9 +6,9 @@ use mathlib.Core.Path.{_≡_, refl}
 use native.Mathlib.Omega.{arith}
 use borrow.Author.Needs.{needs}
 use borrow.Author.Tests.{eq-eqb, ne-eqb}
-use Rattle.search.proofs.Bits.{room, longer, none}
+use Rattle.pass.proofs.Bits.{room, longer, none}
 use Rattle.search.proofs.Tracing.{Tracing, tracing-start, tracing-more, tracing-done}
-use Rattle.search.specs.Areas.{packed}
+use Rattle.pass.specs.Areas.{packed}
 use Rattle.search.proofs.trace.Statement.{statement}
 use Rattle.search.proofs.trace.Tie as tie
 
@@ -93,4 +93,7 @@ returns c =
     (done .0, done .1, inv .1)
 
 pub trace-spec : {M : Type 1} → statement M
-trace-spec = tie.close (tie.spec Inv-loop μ-loop loop-holds sub-j mul-word add-word mul-if1 add-if1 mul-if1-2 shared-slice-read-if1 shr-if1 add-s loop-less loop-again loop-less-2 loop-again-2 returns)
+trace-spec =
+    tie.close
+    (tie.spec Inv-loop μ-loop loop-holds sub-j mul-word add-word mul-if1 add-if1 mul-if1-2 shared-slice-read-if1
+    shr-if1 add-s loop-less loop-again loop-less-2 loop-again-2 returns)

@@ -8,9 +8,9 @@ use native.Mathlib.Omega.{arith}
 use borrow.Author.Needs.{needs}
 use lib.Ieee.{Float, nan}
 use lib.ListN.{length, getD}
-use Rattle.soft.proofs.Same.{soft-same}
-use Rattle.soft.specs.Burst.{heard, valueOf}
-use Rattle.soft.specs.Symbol.{softBit}
+use Rattle.symbol.proofs.Same.{soft-same}
+use Rattle.soft.specs.Burst.{received, valueOf}
+use Rattle.symbol.specs.Symbol.{softBit}
 use Rattle.util.proofs.Fill.{rows-more, rows-at}
 use Rattle.util.specs.Table.{rows}
 use Rattle.soft.proofs.all_bits.Statement.{statement}
@@ -19,7 +19,7 @@ use Rattle.soft.proofs.all_bits.Tie as tie
 abbrev Inv-loop : tie.InvT-loop
 Inv-loop mode kind window terms blanked slots₀ i₀ i-end slots i =
     (i ≤ length blanked) × (length slots ≡ length slots₀)
-    × ((q : ℕ) → q < 5 * i → getD slots q nan ≡ rows 5 (λ i k. softBit true k (valueOf (heard mode kind window terms blanked) i)) q)
+    × ((q : ℕ) → q < 5 * i → getD slots q nan ≡ rows 5 (λ i k. softBit true k (valueOf (received mode kind window terms blanked) i)) q)
 
 abbrev μ-loop : tie.MeasureT-loop
 μ-loop mode kind window terms blanked slots₀ i₀ i-end slots i = length blanked - i
@@ -49,7 +49,7 @@ loop-again c =
     let at = c .before .before .before .before .before .before .before in
     let a = at .before .before .before .before .args in
     let i = at .loop .i in
-    let x : ℕ → ℕ → Float = valueOf (heard (a .mode) (a .kind) (a .window) (a .terms .now) (a .blanked .now)) in
+    let x : ℕ → ℕ → Float = valueOf (received (a .mode) (a .kind) (a .window) (a .terms .now) (a .blanked .now)) in
     let own = c .before .before .before .before .before .values in
     let stored = c .before .before .put-bits .ensures in (
       omega arith,
@@ -66,4 +66,5 @@ returns : tie.Need-returns Inv-loop μ-loop
 returns c = (c .before .loop .inv .1, λ q h. c .before .loop .inv .2 q (omega arith))
 
 pub all-bits-spec : {M : Type 1} → statement M
-all-bits-spec = tie.close (tie.spec Inv-loop μ-loop loop-holds values-requires slice-aggregate-put-bits put-bits-requires add-i loop-less loop-again same-length returns)
+all-bits-spec = tie.close (tie.spec Inv-loop μ-loop loop-holds values-requires slice-aggregate-put-bits put-bits-requires add-i
+    loop-less loop-again same-length returns)

@@ -7,9 +7,9 @@ use native.Mathlib.Omega.{arith}
 use borrow.Author.Needs.{needs}
 use lib.Ieee.{Float, nan}
 use lib.ListN.{length, getD}
-use Rattle.soft.proofs.Same.{metric-same}
-use Rattle.soft.specs.Burst.{heard, valueOf, metricAt, metricsOut}
-use Rattle.soft.specs.Symbol.{metricOut}
+use Rattle.symbol.proofs.Same.{metric-same}
+use Rattle.soft.specs.Burst.{received, valueOf, metricAt, metricsOut}
+use Rattle.symbol.specs.Symbol.{metricOut}
 use Rattle.util.proofs.Fill.{rows-more, rows-at, tabled-only}
 use Rattle.util.specs.Table.{rows}
 use Rattle.soft.proofs.all_metrics.Statement.{statement}
@@ -18,7 +18,7 @@ use Rattle.soft.proofs.all_metrics.Tie as tie
 abbrev Inv-loop : tie.InvT-loop
 Inv-loop mode kind window terms blanked out₀ i₀ i-end out i =
     (i ≤ length blanked) × (length out ≡ length out₀)
-    × ((q : ℕ) → q < 32 * i → getD out q nan ≡ rows 32 (λ i. metricOut (valueOf (heard mode kind window terms blanked) i)) q)
+    × ((q : ℕ) → q < 32 * i → getD out q nan ≡ rows 32 (λ i. metricOut (valueOf (received mode kind window terms blanked) i)) q)
 
 abbrev μ-loop : tie.MeasureT-loop
 μ-loop mode kind window terms blanked out₀ i₀ i-end out i = length blanked - i
@@ -43,7 +43,7 @@ loop-again c =
     let at = c .before .before .before .before .before .before .before in
     let a = at .before .before .before .before .args in
     let i = at .loop .i in
-    let x : ℕ → ℕ → Float = valueOf (heard (a .mode) (a .kind) (a .window) (a .terms .now) (a .blanked .now)) in
+    let x : ℕ → ℕ → Float = valueOf (received (a .mode) (a .kind) (a .window) (a .terms .now) (a .blanked .now)) in
     let own = c .before .before .before .before .before .values in
     let stored = c .before .before .put-metrics .ensures in (
       omega arith,
@@ -62,8 +62,9 @@ returns c =
     let at = c .before in
     let start = at .before .before .before .before in
     let a = start .args in
-    let x : ℕ → ℕ → Float = valueOf (heard (a .mode) (a .kind) (a .window) (a .terms .now) (a .blanked .now)) in
-    tabled-only (32 * length (a .blanked .now)) (rows 32 (λ i. metricOut (x i))) nan (at .loop .out) (at .loop .inv .1 ∙ start .pre .2) (λ q h. at .loop .inv .2 q (omega arith))
+    let x : ℕ → ℕ → Float = valueOf (received (a .mode) (a .kind) (a .window) (a .terms .now) (a .blanked .now)) in
+    tabled-only (32 * length (a .blanked .now)) (rows 32 (λ i. metricOut (x i))) nan (at .loop .out)
+    (at .loop .inv .1 ∙ start .pre .2) (λ q h. at .loop .inv .2 q (omega arith))
 
 pub all-metrics-spec : {M : Type 1} → statement M
 all-metrics-spec = tie.close (tie.spec Inv-loop μ-loop loop-holds values-requires put-metrics-requires add-i loop-less loop-again same-length returns)

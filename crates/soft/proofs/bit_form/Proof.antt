@@ -2,7 +2,7 @@
 use borrow.Author.Needs.{needs}
 use lib.ListN.{length}
 use Rattle.soft.proofs.Forms.{bits-made}
-use Rattle.soft.specs.Burst.{heard, valueOf}
+use Rattle.soft.specs.Burst.{received, valueOf}
 use Rattle.soft.proofs.bit_form.Statement.{statement}
 use Rattle.soft.proofs.bit_form.Tie as tie
 
@@ -35,9 +35,13 @@ returns c =
       slots .0,
       record {
         all = c .before .before .before .before .before .before .before .before .before .before .before .all-metrics .ensures;
-        cut = bits-made (length (a .blanked .now)) (length (a .soft .now)) (valueOf (heard (a .mode) (a .kind) (a .window) (a .terms .now) (a .blanked .now))) (c .before .before .before .before .before .before .before .all-bits .last .1 .1 .1 .1 .1 .0) _ (start .pre .enough) (slots .1) (c .before .before .deinterleave .ensures);
+        cut = bits-made (length (a .blanked .now)) (length (a .soft .now))
+            (valueOf (received (a .mode) (a .kind) (a .window) (a .terms .now) (a .blanked .now)))
+            (c .before .before .before .before .before .before .before .all-bits .last .1 .1 .1 .1 .1 .0) _ (start .pre .enough)
+            (slots .1) (c .before .before .deinterleave .ensures);
       },
     )
 
 pub bit-form-spec : {M : Type 1} → statement M
-bit-form-spec = tie.close (tie.spec all-metrics-requires all-bits-requires mul-deinterleave deinterleave-requires same-length same-length-2 same-length-3 returns)
+bit-form-spec = tie.close (tie.spec all-metrics-requires all-bits-requires mul-deinterleave deinterleave-requires same-length
+    same-length-2 same-length-3 returns)

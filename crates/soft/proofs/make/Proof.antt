@@ -30,8 +30,10 @@ same-length-3 c = search needs
 
 returns : tie.Need-returns
 returns c =
-    let form = c .before .before .before .before .before .before .before .before .before .before .symbol-form .ensures in
-    (c .before .before .clear .ensures ∙ ap (λ (n : ℕ). replicate n plusZero) (form .0), rw (c .before .before .before .before .before .before .before .before .before .before .before .before .before .before .if1 .taken) (form .1))
+    let form = c .before .before .before .before .before .before .before .before .before .before .symbol-form .ensures in (
+      c .before .before .clear .ensures ∙ ap (λ (n : ℕ). replicate n plusZero) (form .0),
+      rw (c .before .before .before .before .before .before .before .before .before .before .before .before .before .before .if1 .taken) (form .1),
+    )
 
 same-length-4 : tie.Need-same-length-4
 same-length-4 c = search needs
@@ -44,8 +46,11 @@ same-length-6 c = search needs
 
 returns-2 : tie.Need-returns-2
 returns-2 c =
-    let form = c .before .before .before .before .before .before .before .before .before .before .bit-form .ensures in
-    (c .before .before .clear2 .ensures ∙ ap (λ (n : ℕ). replicate n plusZero) (form .0), rw (c .before .before .before .before .before .before .before .before .before .before .before .before .before .before .if1 .left) (form .1))
+    let form = c .before .before .before .before .before .before .before .before .before .before .bit-form .ensures in (
+      c .before .before .clear2 .ensures ∙ ap (λ (n : ℕ). replicate n plusZero) (form .0),
+      rw (c .before .before .before .before .before .before .before .before .before .before .before .before .before .before .if1 .left) (form .1),
+    )
 
 pub make-spec : {M : Type 1} → statement M
-make-spec = tie.close (tie.spec symbol-form-requires clear-requires bit-form-requires clear-requires-2 same-length same-length-2 same-length-3 returns same-length-4 same-length-5 same-length-6 returns-2)
+make-spec = tie.close (tie.spec symbol-form-requires clear-requires bit-form-requires clear-requires-2 same-length same-length-2
+    same-length-3 returns same-length-4 same-length-5 same-length-6 returns-2)

@@ -1,5 +1,5 @@
--- `soft::plain_bits` meets its contract. The invariant: the soft bits passed are stored, and inside a symbol its log-sums are there. The measure is what is left of the bits.
--- Assumes nothing.
+-- `soft::plain_bits` meets its contract. The invariant: the soft bits passed are stored, and inside a symbol its log-sums are there.
+-- The measure is what is left of the bits. Assumes nothing.
 use Prim.Native.Nat.{ℕ, _+_, _*_, _-_, _/_, _%_, _≤_, _<_}
 use mathlib.Core.Bool.{false}
 use mathlib.Core.Logic.{⊎-elim}
@@ -10,9 +10,9 @@ use native.Mathlib.Omega.{arith}
 use borrow.Author.Needs.{needs}
 use lib.Ieee.{Float, nan}
 use lib.ListN.{length, getD, length-set}
-use Rattle.soft.proofs.Sums.{soft-of}
-use Rattle.soft.specs.Symbol.{softBit}
-use Rattle.soft.specs.Inside.{Summed}
+use Rattle.symbol.proofs.Sums.{soft-of}
+use Rattle.symbol.specs.Symbol.{softBit}
+use Rattle.symbol.specs.Sums.{Summed}
 use Rattle.util.proofs.Fill.{up-done, tabled-only}
 use Rattle.util.specs.Table.{rows}
 use Rattle.soft.proofs.plain_bits.Statement.{statement}
@@ -72,8 +72,10 @@ loop-again c =
     (joined .if1 .came) in (
       omega arith,
       length-set (at .loop .soft) p (c .soft-bit .result) ∙ at .loop .inv .1,
-      up-done (at .loop .soft) p (c .soft-bit .result) nan (rows 5 row) (omega arith) (c .soft-bit .ensures ∙ soft-of false (of-symbol (a .metrics .now) (p / 5)) _ (4 - p % 5) (omega arith) own) (at .loop .inv .2),
-      λ e. let same : (p + 1) / 5 ≡ p / 5 = omega (arith, e) in subst⁻¹ (λ (i : ℕ). Summed false (of-symbol (a .metrics .now) i) 32 (joined .if1 .sums)) same own,
+      up-done (at .loop .soft) p (c .soft-bit .result) nan (rows 5 row) (omega arith)
+          (c .soft-bit .ensures ∙ soft-of false (of-symbol (a .metrics .now) (p / 5)) _ (4 - p % 5) (omega arith) own) (at .loop .inv .2),
+      λ e. let same : (p + 1) / 5 ≡ p / 5 = omega (arith, e) in
+          subst⁻¹ (λ (i : ℕ). Summed false (of-symbol (a .metrics .now) i) 32 (joined .if1 .sums)) same own,
     )
 
 same-length : tie.Need-same-length Inv-loop μ-loop
@@ -87,4 +89,5 @@ returns c =
     tabled-only (length (a .soft .now)) (rows 5 row) nan (at .loop .soft) (at .loop .inv .1) (λ i h. at .loop .inv .2 i (omega arith))
 
 pub plain-bits-spec : {M : Type 1} → statement M
-plain-bits-spec = tie.close (tie.spec Inv-loop μ-loop loop-holds mul-log-sums log-sums-requires sub-soft-bit soft-bit-requires mul-soft slice-write-soft add-p loop-less loop-again same-length returns)
+plain-bits-spec = tie.close (tie.spec Inv-loop μ-loop loop-holds mul-log-sums log-sums-requires sub-soft-bit soft-bit-requires
+    mul-soft slice-write-soft add-p loop-less loop-again same-length returns)

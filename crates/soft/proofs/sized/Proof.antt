@@ -25,18 +25,35 @@ mul-if3 c = search needs
 
 returns-3 : tie.Need-returns-3
 unfolding sizes
-returns-3 c = rw (sym (c .before .before .before .symbols-of .ensures), eq-eqb _ _ (c .before .before .if1 .left), eq-eqb _ _ (c .before .if2 .left), ne-eqb _ _ (c .if3 .taken))
+returns-3 c = rw (
+  sym (c .before .before .before .symbols-of .ensures),
+  eq-eqb _ _ (c .before .before .if1 .left),
+  eq-eqb _ _ (c .before .if2 .left),
+  ne-eqb _ _ (c .if3 .taken),
+)
 
 mul-if4 : tie.Need-mul-if4
 mul-if4 c = search needs
 
 returns-4 : tie.Need-returns-4
 unfolding sizes
-returns-4 c = rw (sym (c .before .before .before .before .symbols-of .ensures), eq-eqb _ _ (c .before .before .before .if1 .left), eq-eqb _ _ (c .before .before .if2 .left), eq-eqb _ _ (c .before .if3 .left), ne-eqb _ _ (c .if4 .taken))
+returns-4 c = rw (
+  sym (c .before .before .before .before .symbols-of .ensures),
+  eq-eqb _ _ (c .before .before .before .if1 .left),
+  eq-eqb _ _ (c .before .before .if2 .left),
+  eq-eqb _ _ (c .before .if3 .left),
+  ne-eqb _ _ (c .if4 .taken),
+)
 
 returns-5 : tie.Need-returns-5
 unfolding sizes
-returns-5 c = rw (sym (c .before .before .before .before .symbols-of .ensures), eq-eqb _ _ (c .before .before .before .if1 .left), eq-eqb _ _ (c .before .before .if2 .left), eq-eqb _ _ (c .before .if3 .left), eq-eqb _ _ (c .if4 .left))
+returns-5 c = rw (
+  sym (c .before .before .before .before .symbols-of .ensures),
+  eq-eqb _ _ (c .before .before .before .if1 .left),
+  eq-eqb _ _ (c .before .before .if2 .left),
+  eq-eqb _ _ (c .before .if3 .left),
+  eq-eqb _ _ (c .if4 .left),
+)
 
 pub sized-spec : {M : Type 1} → statement M
 sized-spec = tie.close (tie.spec symbols-of-requires mul-if1 returns returns-2 mul-if3 returns-3 mul-if4 returns-4 returns-5)

@@ -55,7 +55,8 @@ returns-5 : tie.Need-returns-5
 returns-5 c =
     let g = c .before .before .before .before .before .before .before .before .before .before .before .before .before .before .args in
     let a = asked (g .mode) (g .kind) (g .symbols) (g .window) (g .bits) (g .terms .now) (g .blanked .now) (g .work .now) (g .metrics .now) (g .soft .now) in
-    let one = sym (c .before .before .before .before .before .before .before .before .is-named .ensures) ∙ not-false _ (c .before .before .before .before .before .before .before .if1 .left) in
+    let one = sym (c .before .before .before .before .before .before .before .before .is-named .ensures)
+    ∙ not-false _ (c .before .before .before .before .before .before .before .if1 .left) in
     let two = le-ltb 10240 (g .bits) (c .before .before .before .before .before .before .if2 .left) in
     let three = sym (c .before .before .before .before .before .has-window .ensures) ∙ not-false _ (c .before .before .before .before .if3 .left) in
     let four = sym (c .before .before .before .sized .ensures) ∙ not-false _ (c .before .before .if4 .left) in
@@ -68,19 +69,22 @@ returns-6 : tie.Need-returns-6
 returns-6 c =
     let g = c .before .before .before .before .before .before .before .before .before .before .before .before .before .before .before .before .args in
     let a = asked (g .mode) (g .kind) (g .symbols) (g .window) (g .bits) (g .terms .now) (g .blanked .now) (g .work .now) (g .metrics .now) (g .soft .now) in
-    let one = sym (c .before .before .before .before .before .before .before .before .before .before .is-named .ensures) ∙ not-false _ (c .before .before .before .before .before .before .before .before .before .if1 .left) in
+    let one = sym (c .before .before .before .before .before .before .before .before .before .before .is-named .ensures)
+    ∙ not-false _ (c .before .before .before .before .before .before .before .before .before .if1 .left) in
     let two = le-ltb 10240 (g .bits) (c .before .before .before .before .before .before .before .before .if2 .left) in
-    let three = sym (c .before .before .before .before .before .before .before .has-window .ensures) ∙ not-false _ (c .before .before .before .before .before .before .if3 .left) in
+    let three = sym (c .before .before .before .before .before .before .before .has-window .ensures)
+    ∙ not-false _ (c .before .before .before .before .before .before .if3 .left) in
     let four = sym (c .before .before .before .before .before .sized .ensures) ∙ not-false _ (c .before .before .before .before .if4 .left) in
     let six = sym (c .before .before .before .some-out .ensures) ∙ c .before .before .if5 .left in
     stays a 7 (seventh a one two three four six (sym (c .before .some-count-out .ensures) ∙ c .if6 .taken))
 
 make-requires : tie.Need-make-requires
 make-requires c κs =
-    let g = c .before .before .before .before .before .before .before .before .before .before .before .before .before .before .before .before .before .before .before .args in
+    let tests = c .before .before .before .before .before .before .before in
+    let g = tests .before .before .before .before .before .before .before .before .before .before .before .before .args in
     let a = asked (g .mode) (g .kind) (g .symbols) (g .window) (g .bits) (g .terms .now) (g .blanked .now) (g .work .now) (g .metrics .now) (g .soft .now) in
-    let four = sym (c .before .before .before .before .before .before .before .before .sized .ensures) ∙ not-false _ (c .before .before .before .before .before .before .before .if4 .left) in
-    lent (g .bits) _ _ _ _ _ four (c .before .before .before .before .before .before .before .before .before .before .before .if2 .left)
+    let four = sym (tests .before .sized .ensures) ∙ not-false _ (tests .if4 .left) in
+    lent (g .bits) _ _ _ _ _ four (tests .before .before .before .before .if2 .left)
 
 same-length : tie.Need-same-length
 same-length c = search needs
@@ -93,17 +97,21 @@ same-length-3 c = search needs
 
 returns-7 : tie.Need-returns-7
 returns-7 c =
-    let g = c .before .before .before .before .before .before .before .before .before .before .before .before .before .before .before .before .before .before .before .before .before .before .before .before .before .before .args in
+    let tests = c .before .before .before .before .before .before .before .before .before .before in
+    let g = tests .before .before .before .before .before .before .before .before .before .before .before .before .before .before .before .before .args in
     let a = asked (g .mode) (g .kind) (g .symbols) (g .window) (g .bits) (g .terms .now) (g .blanked .now) (g .work .now) (g .metrics .now) (g .soft .now) in
-    let one = sym (c .before .before .before .before .before .before .before .before .before .before .before .before .before .before .before .before .before .before .before .before .is-named .ensures) ∙ not-false _ (c .before .before .before .before .before .before .before .before .before .before .before .before .before .before .before .before .before .before .before .if1 .left) in
-    let two = le-ltb 10240 (g .bits) (c .before .before .before .before .before .before .before .before .before .before .before .before .before .before .before .before .before .before .if2 .left) in
-    let three = sym (c .before .before .before .before .before .before .before .before .before .before .before .before .before .before .before .before .before .has-window .ensures) ∙ not-false _ (c .before .before .before .before .before .before .before .before .before .before .before .before .before .before .before .before .if3 .left) in
-    let four = sym (c .before .before .before .before .before .before .before .before .before .before .before .before .before .before .before .sized .ensures) ∙ not-false _ (c .before .before .before .before .before .before .before .before .before .before .before .before .before .before .if4 .left) in
-    let six = sym (c .before .before .before .before .before .before .before .before .before .before .before .before .before .some-out .ensures) ∙ c .before .before .before .before .before .before .before .before .before .before .before .before .if5 .left in
-    let seven = sym (c .before .before .before .before .before .before .before .before .before .before .before .some-count-out .ensures) ∙ c .before .before .before .before .before .before .before .before .before .before .if6 .left in
+    let one = sym (tests .before .before .before .before .before .before .before .before .before .before .is-named .ensures)
+    ∙ not-false _ (tests .before .before .before .before .before .before .before .before .before .if1 .left) in
+    let two = le-ltb 10240 (g .bits) (tests .before .before .before .before .before .before .before .before .if2 .left) in
+    let three = sym (tests .before .before .before .before .before .before .before .has-window .ensures)
+    ∙ not-false _ (tests .before .before .before .before .before .before .if3 .left) in
+    let four = sym (tests .before .before .before .before .before .sized .ensures) ∙ not-false _ (tests .before .before .before .before .if4 .left) in
+    let six = sym (tests .before .before .before .some-out .ensures) ∙ tests .before .before .if5 .left in
+    let seven = sym (tests .before .some-count-out .ensures) ∙ tests .if6 .left in
     let made = c .before .before .before .before .before .before .make .ensures in
     done a (length (g .blanked .now)) (length (g .soft .now)) _ _ _ (none a one two three four six seven)
     (count-is (g .bits) _ _ _ _ _ four) (soft-is (g .bits) _ _ _ _ _ four) (made .0) (made .1)
 
 pub soft-values-spec : {M : Type 1} → statement M
-soft-values-spec = tie.close (tie.spec is-named-requires returns returns-2 has-window-requires returns-3 sized-requires returns-4 some-out-requires returns-5 some-count-out-requires returns-6 make-requires same-length same-length-2 same-length-3 returns-7)
+soft-values-spec = tie.close (tie.spec is-named-requires returns returns-2 has-window-requires returns-3 sized-requires returns-4
+    some-out-requires returns-5 some-count-out-requires returns-6 make-requires same-length same-length-2 same-length-3 returns-7)

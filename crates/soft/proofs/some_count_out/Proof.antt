@@ -45,8 +45,11 @@ loop-less c = search needs
 loop-again : tie.Need-loop-again Inv-loop μ-loop
 loop-again c =
     let at = c .before .before .before .before in
-    let a = at .before .before .args in
-    (omega arith, not-here (countOut (a .window)) (a .blanked .now) (at .loop .i) (at .loop .inv .1) 0 (omega arith) (sym (c .before .count-out .ensures) ∙ c .if1 .left))
+    let a = at .before .before .args in (
+      omega arith,
+      not-here (countOut (a .window)) (a .blanked .now) (at .loop .i) (at .loop .inv .1) 0 (omega arith)
+          (sym (c .before .count-out .ensures) ∙ c .if1 .left),
+    )
 
 returns-2 : tie.Need-returns-2 Inv-loop μ-loop
 returns-2 c =
@@ -55,4 +58,5 @@ returns-2 c =
     none-left (countOut (a .window)) (a .blanked .now) (at .loop .i) (at .loop .inv .1) (omega arith)
 
 pub some-count-out-spec : {M : Type 1} → statement M
-some-count-out-spec = tie.close (tie.spec Inv-loop μ-loop loop-holds mul-count-out shared-slice-read-count-out count-out-requires returns add-i loop-less loop-again returns-2)
+some-count-out-spec = tie.close (tie.spec Inv-loop μ-loop loop-holds mul-count-out shared-slice-read-count-out count-out-requires
+    returns add-i loop-less loop-again returns-2)

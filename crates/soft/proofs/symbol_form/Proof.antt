@@ -4,7 +4,7 @@ use mathlib.Core.Path.{sym, ap, _∙_}
 use borrow.Author.Needs.{needs}
 use lib.ListN.{length}
 use Rattle.soft.proofs.Forms.{metrics-long, metrics-made, soft-made}
-use Rattle.soft.specs.Burst.{heard, valueOf}
+use Rattle.soft.specs.Burst.{received, valueOf}
 use Rattle.soft.proofs.symbol_form.Statement.{statement}
 use Rattle.soft.proofs.symbol_form.Tie as tie
 
@@ -32,11 +32,14 @@ returns c =
     let a = start .args in
     let n = length (a .blanked .now) in
     let bits = length (a .soft .now) in
-    let metrics = metrics-made n bits (valueOf (heard (a .mode) (a .kind) (a .window) (a .terms .now) (a .blanked .now))) _ _ (c .before .before .before .before .before .before .before .before .before .before .before .before .all-metrics .ensures) (c .before .before .before .before .before .before .before .deinterleave-sym .ensures) in (
-      ap length (c .before .before .before .before .before .before .before .before .before .before .before .before .all-metrics .ensures) ∙ metrics-long n bits (valueOf (heard (a .mode) (a .kind) (a .window) (a .terms .now) (a .blanked .now))) false ∙ sym (start .pre .work),
+    let metrics = metrics-made n bits (valueOf (received (a .mode) (a .kind) (a .window) (a .terms .now) (a .blanked .now)))
+    _ _ (c .before .before .before .before .before .before .before .before .before .before .before .before .all-metrics .ensures)
+    (c .before .before .before .before .before .before .before .deinterleave-sym .ensures) in (
+      ap length (c .before .before .before .before .before .before .before .before .before .before .before .before .all-metrics .ensures) ∙ metrics-long n bits (valueOf (received (a .mode) (a .kind) (a .window) (a .terms .now) (a .blanked .now))) false ∙ sym (start .pre .work),
       record {
         all = metrics;
-        cut = soft-made n bits (valueOf (heard (a .mode) (a .kind) (a .window) (a .terms .now) (a .blanked .now))) _ _ (start .pre .enough) metrics (c .before .before .plain-bits .ensures);
+        cut = soft-made n bits (valueOf (received (a .mode) (a .kind) (a .window) (a .terms .now) (a .blanked .now)))
+            _ _ (start .pre .enough) metrics (c .before .before .plain-bits .ensures);
       },
     )
 

@@ -8,8 +8,8 @@ use lib.ListN.{getD-replicate}
 use Rattle.frame.proofs.Air.{header-most, bins-some, bins-most, hop-below}
 use Rattle.frame.specs.Format.{formatOf}
 use Rattle.ieee.specs.Whole.{plusZero}
-use Rattle.soft.proofs.Same.{value-erased, value-kept}
-use Rattle.soft.specs.Burst.{heard}
+use Rattle.soft.proofs.Ways.{value-erased, value-kept}
+use Rattle.soft.specs.Burst.{received}
 use Rattle.soft.proofs.values.Statement.{statement}
 use Rattle.soft.proofs.values.Tie as tie
 
@@ -25,8 +25,12 @@ erased-requires c κs = search needs
 returns : tie.Need-returns
 unfolding ofBits
 returns c =
-    let a = c .before .before .before .before .before .args in
-    (refl, λ v h. getD-replicate 32 v plusZero nan h ∙ sym (value-erased (heard (a .mode) (a .kind) (a .window) (a .terms .now) (a .blanked .now)) (a .i) v (sym (c .before .erased .ensures) ∙ c .if1 .taken)))
+    let a = c .before .before .before .before .before .args in (
+      refl,
+      λ v h. getD-replicate 32 v plusZero nan h
+          ∙ sym (value-erased (received (a .mode) (a .kind) (a .window) (a .terms .now) (a .blanked .now)) (a .i) v
+          (sym (c .before .erased .ensures) ∙ c .if1 .taken)),
+    )
 
 header-symbols-requires : tie.Need-header-symbols-requires
 header-symbols-requires c κs = search needs
@@ -57,9 +61,11 @@ returns-2 c =
     let a = at .before .before .before .before .args in (
       c .metrics .ensures .0,
       λ v h. c .metrics .ensures .1 v h
-          ∙ value-kept (heard (a .mode) (a .kind) (a .window) (a .terms .now) (a .blanked .now)) (a .i) v _ _ _
-          (sym (at .erased .ensures) ∙ c .before .before .before .before .if1 .left) (c .before .bins .ensures) (c .before .before .hop .ensures) (c .before .before .before .header-symbols .ensures),
+          ∙ value-kept (received (a .mode) (a .kind) (a .window) (a .terms .now) (a .blanked .now)) (a .i) v _ _ _
+          (sym (at .erased .ensures) ∙ c .before .before .before .before .if1 .left) (c .before .bins .ensures)
+          (c .before .before .hop .ensures) (c .before .before .before .header-symbols .ensures),
     )
 
 pub values-spec : {M : Type 1} → statement M
-values-spec = tie.close (tie.spec mul-erased shared-slice-read-erased erased-requires returns header-symbols-requires add-hop hop-requires bins-requires metrics-requires returns-2)
+values-spec = tie.close (tie.spec mul-erased shared-slice-read-erased erased-requires returns header-symbols-requires add-hop
+    hop-requires bins-requires metrics-requires returns-2)

@@ -61,4 +61,7 @@ returns-3 : tie.Need-returns-3
 returns-3 c = search needs
 
 pub answer-spec : {M : Type 1} → statement M
-answer-spec = tie.close (tie.spec returns returns-2 add-n mul-terms array-borrow-prefix-terms slice-aggregate-burst array-borrow-prefix-counts slice-aggregate-burst-2 mul-work array-borrow-prefix-work slice-aggregate-burst-3 mul-metrics array-borrow-prefix-metrics slice-aggregate-burst-4 array-borrow-prefix-soft slice-aggregate-burst-5 burst-requires returns-3)
+answer-spec =
+    tie.close (tie.spec returns returns-2 add-n mul-terms array-borrow-prefix-terms slice-aggregate-burst array-borrow-prefix-counts
+    slice-aggregate-burst-2 mul-work array-borrow-prefix-work slice-aggregate-burst-3 mul-metrics array-borrow-prefix-metrics slice-aggregate-burst-4
+    array-borrow-prefix-soft slice-aggregate-burst-5 burst-requires returns-3)

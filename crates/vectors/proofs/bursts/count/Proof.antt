@@ -48,4 +48,6 @@ returns : tie.Need-returns Inv-loop μ-loop
 returns c = search needs
 
 pub count-spec : {M : Type 1} → statement M
-count-spec = tie.close (tie.spec Inv-loop μ-loop loop-holds probe-mix64-requires cast-times blanked-requires mul-counts slice-write-counts add-i loop-less loop-again same-length returns)
+count-spec =
+    tie.close (tie.spec Inv-loop μ-loop loop-holds probe-mix64-requires cast-times blanked-requires mul-counts slice-write-counts add-i loop-less
+    loop-again same-length returns)

@@ -40,4 +40,6 @@ returns : tie.Need-returns Inv-loop μ-loop
 returns c = search needs
 
 pub digest-spec : {M : Type 1} → statement M
-digest-spec = tie.close (tie.spec Inv-loop μ-loop loop-holds mul-bits shared-slice-read-bits bits-requires probe-mix64-requires add-i loop-less loop-again returns)
+digest-spec =
+    tie.close (tie.spec Inv-loop μ-loop loop-holds mul-bits shared-slice-read-bits bits-requires probe-mix64-requires add-i loop-less loop-again
+    returns)

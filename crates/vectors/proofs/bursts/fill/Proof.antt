@@ -45,4 +45,6 @@ returns : tie.Need-returns Inv-loop μ-loop
 returns c = search needs
 
 pub fill-spec : {M : Type 1} → statement M
-fill-spec = tie.close (tie.spec Inv-loop μ-loop loop-holds probe-mix64-requires term-requires mul-terms slice-write-terms add-i loop-less loop-again same-length returns)
+fill-spec =
+    tie.close (tie.spec Inv-loop μ-loop loop-holds probe-mix64-requires term-requires mul-terms slice-write-terms add-i loop-less loop-again
+    same-length returns)

@@ -64,4 +64,7 @@ returns-3 : tie.Need-returns-3
 returns-3 c = search needs
 
 pub header-spec : {M : Type 1} → statement M
-header-spec = tie.close (tie.spec returns probe-mix64-requires bits-of-requires slice-aggregate-read slice-aggregate-read-2 slice-aggregate-read-3 slice-aggregate-read-4 read-requires returns-2 array-share-prefix-bits slice-aggregate-read-5 array-borrow-prefix-values slice-aggregate-read-6 array-borrow-prefix-terms slice-aggregate-read-7 array-borrow-prefix-decisions slice-aggregate-read-8 read-requires-2 returns-3)
+header-spec =
+    tie.close (tie.spec returns probe-mix64-requires bits-of-requires slice-aggregate-read slice-aggregate-read-2 slice-aggregate-read-3
+    slice-aggregate-read-4 read-requires returns-2 array-share-prefix-bits slice-aggregate-read-5 array-borrow-prefix-values slice-aggregate-read-6
+    array-borrow-prefix-terms slice-aggregate-read-7 array-borrow-prefix-decisions slice-aggregate-read-8 read-requires-2 returns-3)

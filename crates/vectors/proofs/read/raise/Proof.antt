@@ -48,4 +48,6 @@ returns : tie.Need-returns Inv-loop μ-loop
 returns c = search needs
 
 pub raise-spec : {M : Type 1} → statement M
-raise-spec = tie.close (tie.spec Inv-loop μ-loop cast-strength int-to-float-strength loop-holds shared-slice-read-probe-bin probe-bin-requires raise-one-requires add-s loop-less loop-again same-length returns)
+raise-spec =
+    tie.close (tie.spec Inv-loop μ-loop cast-strength int-to-float-strength loop-holds shared-slice-read-probe-bin probe-bin-requires
+    raise-one-requires add-s loop-less loop-again same-length returns)

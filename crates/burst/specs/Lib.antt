@@ -1,3 +1,0 @@
--- What the promises of `burst` cite.
-pub mod Layout
-pub mod Verdict

@@ -1,0 +1,2 @@
+-- Document 01's edge list.
+pub mod Stars

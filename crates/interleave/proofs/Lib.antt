@@ -1,0 +1,2 @@
+-- Laws of this crate's definitions, for its own proofs and its callers'.
+pub mod Interleave

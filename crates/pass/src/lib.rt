@@ -1,0 +1,123 @@
+// One pass of the header's Viterbi search over a tail-biting code, which is wrapped around at most three times (crate
+// search): a step, a pass and its end state over lent areas (fec/conv.rs: `pass`). What the areas hold is document 01's
+// search, as crate trellis defines it, at f32.
+ghost use mathlib.Core.Path.{_≡_};
+ghost use Prim.Native.Nat.{_*_, _<_, _≤_};
+ghost use lib.ListN.{length};
+ghost use lib.Ieee.{lt};
+ghost use Rattle.util.specs.Choose.{choose};
+ghost use Rattle.trellis.specs.Scale.{highest};
+ghost use Rattle.trellis.specs.Numbers.{single};
+ghost use Rattle.trellis.specs.Search.{brings};
+ghost use Rattle.pass.specs.Areas.{table, stepsIn, over, Metrics, Word, Stepped, Ran};
+
+// The survivor of a state's two registers, as a decision: 1 for the upper one where its path metric b is strictly
+// greater, else 0 for the lower one with a.
+fn decision(a: f32, b: f32) -> u64
+    ensures { λ r. ⌜ (r ≡ choose (lt a b) 1 0) × (r ≤ 1) ⌝ }
+{
+    (b > a) as u64
+}
+
+// The survivor's path metric.
+fn greater(a: f32, b: f32) -> f32
+    ensures { λ r. ⌜ r ≡ choose (lt a b) b a ⌝ }
+{
+    if b > a { b } else { a }
+}
+
+// The path metric that register r brings at step j: that of the state it comes from, its score, and the branch metric,
+// which is the metric of the register's label.
+fn path_metric(scores: &[f32], metrics: &[f32], j: usize, r: usize) -> f32
+    requires { ⌜ Metrics (now metrics) ⌝ }
+    requires { ⌜ (length (now scores) ≡ 16384) × (j < stepsIn (now metrics)) × (r < 32768) ⌝ }
+    ensures { λ x. ⌜ x ≡ brings (over (now (metrics .entry))) (table (now (scores .entry))) j r ⌝ }
+{
+    scores[r / 2] + metrics[j * 32 + (conv::label(r as u32) as usize)]
+}
+
+// The 64 states of word w at step j, the last one first. The answer has their decisions.
+fn states(scores: &[f32], metrics: &[f32], j: usize, w: usize, next: &mut [f32]) -> u64
+    requires { ⌜ Metrics (now metrics) ⌝ }
+    requires { ⌜ (length (now scores) ≡ 16384) × (j < stepsIn (now metrics)) × (w < 256) × (length (now next) ≡ 16384) ⌝ }
+    ensures { λ r. ⌜ Word (now (metrics .entry)) (now (scores .entry)) j w (now (next .entry)) (now (next .exit)) r ⌝ }
+{
+    let mut word = 0u64;
+    let mut k = 64usize;
+    while 0 < k {
+        k -= 1;
+        let s = w * 64 + k;
+        let a = path_metric(scores, metrics, j, s);
+        let b = path_metric(scores, metrics, j, s + 16384);
+        next[s] = greater(a, b);
+        word = word * 2 + decision(a, b);
+    }
+    word
+}
+
+// All states of step j: their scores go to `next`, their decisions to the step's 256 words.
+fn step(scores: &[f32], metrics: &[f32], j: usize, next: &mut [f32], decisions: &mut [u64])
+    requires { ⌜ Metrics (now metrics) ⌝ }
+    requires { ⌜ (length (now scores) ≡ 16384) × (j < stepsIn (now metrics)) × (length (now next) ≡ 16384) × (length (now decisions) ≡ stepsIn (now metrics) * 256) ⌝ }
+    ensures { λ _. ⌜ Stepped (now (metrics .entry)) (now (scores .entry)) j (now (next .exit)) (now (decisions .entry)) (now (decisions .exit)) ⌝ }
+{
+    let mut w = 0usize;
+    while w < 256 {
+        decisions[j * 256 + w] = states(scores, metrics, j, w, next);
+        w += 1;
+    }
+}
+
+// Inside: all scores of one area into another.
+pub fn copy(from: &[f32], to: &mut [f32])
+    requires { ⌜ (length (now from) ≡ 16384) × (length (now to) ≡ 16384) ⌝ }
+    ensures { λ _. ⌜ now (to .exit) ≡ now (from .entry) ⌝ }
+{
+    let mut s = 0usize;
+    while s < 16384 {
+        to[s] = from[s];
+        s += 1;
+    }
+}
+
+// Step j of a pass. Its scores are copied back.
+fn turn(metrics: &[f32], j: usize, scores: &mut [f32], next: &mut [f32], decisions: &mut [u64])
+    requires { ⌜ Metrics (now metrics) ⌝ }
+    requires { ⌜ (length (now scores) ≡ 16384) × (j < stepsIn (now metrics)) × (length (now next) ≡ 16384) × (length (now decisions) ≡ stepsIn (now metrics) * 256) ⌝ }
+    ensures { λ _. ⌜ Stepped (now (metrics .entry)) (now (scores .entry)) j (now (scores .exit)) (now (decisions .entry)) (now (decisions .exit)) ⌝ }
+    ensures size { λ _. ⌜ length (now (next .exit)) ≡ 16384 ⌝ }
+{
+    step(scores, metrics, j, next, decisions);
+    copy(next, scores);
+}
+
+// Inside: a pass from the start scores in `scores`, which it replaces by its end scores.
+pub fn pass(metrics: &[f32], scores: &mut [f32], next: &mut [f32], decisions: &mut [u64])
+    requires { ⌜ Metrics (now metrics) ⌝ }
+    requires { ⌜ (length (now scores) ≡ 16384) × (length (now next) ≡ 16384) × (length (now decisions) ≡ stepsIn (now metrics) * 256) ⌝ }
+    ensures { λ _. ⌜ Ran (now (metrics .entry)) (table (now (scores .entry))) (stepsIn (now (metrics .entry))) (now (scores .exit)) (now (decisions .exit)) ⌝ }
+    ensures sizes { λ _. ⌜ (length (now (next .exit)) ≡ 16384) × (length (now (decisions .exit)) ≡ stepsIn (now (metrics .entry)) * 256) ⌝ }
+{
+    let steps = metrics.len() / 32;
+    let mut j = 0usize;
+    while j < steps {
+        turn(metrics, j, scores, next, decisions);
+        j += 1;
+    }
+}
+
+// Inside: the end state, the lowest of the states with the greatest score.
+pub fn end_state(scores: &[f32]) -> usize
+    requires { ⌜ length (now scores) ≡ 16384 ⌝ }
+    ensures { λ r. ⌜ (r ≡ highest single (table (now (scores .entry))) 16384) × (r < 16384) ⌝ }
+{
+    let mut best = 0usize;
+    let mut s = 0usize;
+    while s < 16384 {
+        if scores[s] > scores[best] {
+            best = s;
+        }
+        s += 1;
+    }
+    best
+}
