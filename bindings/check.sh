@@ -7,8 +7,8 @@ case "${1:-}" in
     "") ;;
     *) sed -n '2,3s/^# //p' "$0"; [ "$1" = --help ] || [ "$1" = -h ]; exit ;;
 esac
-rt staticlib ion >/dev/null
 mkdir -p target
+rt staticlib ion >target/staticlib-ion.log 2>&1 || { cat target/staticlib-ion.log >&2; exit 1; }
 cc -std=c99 -Wall -Wextra -Werror -Iinclude bindings/c/read.c target/staticlib/libion.a -o target/read
 target/read
 c++ -std=c++11 -Wall -Wextra -Werror -Iinclude -fsyntax-only -x c++ include/ion.h

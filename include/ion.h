@@ -6,7 +6,7 @@
  *
  * Buffers: a pointer must be valid for its length and aligned as its type asks; with length 0 it may be NULL. Lent buffers must
  * overlap neither each other nor an input. Nothing is kept between calls, so any threads may call at once over buffers of their own.
- * No function recurses or allocates; ion_read_header takes some 9 KiB of stack, ion_track_timing some 2 KiB, the others less.
+ * No function recurses or allocates; ion_read_header takes 9 KiB of stack, ion_track_timing 6, ion_fit_drift 3, the others below 2.
  *
  * Terms: per symbol five rows of 52 floats, row 0 first, place 0 first in each: 260. Each is a natural logarithm: row j, place e has
  * ln(p(energy at place e | a tone j-2 places below it) / p(energy | noise alone)). Bin b of the mode's grid is place b+2. A value's
