@@ -157,14 +157,19 @@ fn plot(lines: &[Vec<f64>; 4], repeats: usize) -> String {
     s + "</svg>\n"
 }
 
+fn stop(why: &str) -> ! {
+    eprintln!("bench: {why} (oracle/bench.sh --help)");
+    std::process::exit(2)
+}
+
 fn main() {
     let word = |i: usize| std::env::args().nth(i);
     if word(1).as_deref() == Some("once") {
         // one burst of each form, to count its instructions
-        let n = word(2).and_then(|n| n.parse().ok()).expect("once SYMBOLS");
+        let n = word(2).and_then(|n| n.parse().ok()).unwrap_or_else(|| stop("once needs a number of symbols"));
         return [false, true].iter().for_each(|&form| drop(soft(0, n, form)));
     }
-    let repeats = word(1).map_or(100, |n| n.parse().expect("how many repeats")).max(1);
+    let repeats = word(1).map_or(100, |n| n.parse().unwrap_or_else(|_| stop("the repeats are no number"))).max(1);
     println!("ours / the Rust, {repeats} repeats      median   least  greatest   ours, ms  the Rust, ms");
     headers(repeats, "header read, clean", 0);
     headers(repeats, "header read, noisy", 1);

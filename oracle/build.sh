@@ -5,6 +5,6 @@ set -eu
 . "$(dirname "$0")/common.sh"
 needs_rust
 cd "$root"
-rt staticlib ion >/dev/null
+our_library ion
 rust_library "$out" zero
 rust_program "$1" "$2" -L target/staticlib -l static=ion

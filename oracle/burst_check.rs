@@ -1,5 +1,5 @@
 // Holds the program `burst` to the Rust over made bursts: what it prints, bit for bit, and that a damaged file gets one line on standard error,
-// an empty standard output, and status 1 from `burst | grep .`. With a file and the words soft and metrics it prints what the Rust says of the file.
+// an empty standard output, and status 1 from `burst | grep .`; the file by standard input and by name; the usage; a full device. With a file and the words soft and metrics it prints what the Rust says of the file.
 mod inputs;
 mod made;
 use ion::fec::conv::ConvCode;
@@ -43,9 +43,21 @@ fn stop(why: &str) -> ! {
     std::process::exit(2)
 }
 
-/// Runs `burst` (oracle/burst_check.sh says where it lies) with `grep .` behind it: what both wrote, and grep's status.
+/// Runs `burst` with `grep .` behind it, the file by standard input: what both wrote, and grep's status.
 fn run(file: &[u8], words: &str) -> (String, String, Option<i32>) {
-    let mut p = Command::new("sh").args(["-c", &format!("\"$BURST\" {words} | grep .")]).stdin(Stdio::piped()).stdout(Stdio::piped()).stderr(Stdio::piped()).spawn().unwrap();
+    shell(file, &format!("target/bin/burst {words} | grep ."))
+}
+
+/// The same with the file by its name, before or after the words.
+fn run_named(file: &[u8], words: &str, is_first: bool) -> (String, String, Option<i32>) {
+    const NAME: &str = "target/oracle/soft";
+    std::fs::write(NAME, file).unwrap();
+    let (before, after) = if is_first { (NAME, words) } else { (words, NAME) };
+    shell(b"", &format!("target/bin/burst {before} {after} | grep ."))
+}
+
+fn shell(file: &[u8], command: &str) -> (String, String, Option<i32>) {
+    let mut p = Command::new("sh").args(["-c", command]).stdin(Stdio::piped()).stdout(Stdio::piped()).stderr(Stdio::piped()).spawn().unwrap();
     let mut input = p.stdin.take().unwrap();
     let file = file.to_vec();
     // a refused file is not read to its end
@@ -88,7 +100,7 @@ fn main() {
         let b = made(i, &h);
         let words = ["", "soft", "metrics", "soft metrics"][(i % 4) as usize];
         let (word, good, want) = expected(&c, &b, words.contains("soft"), words.contains("metrics"));
-        let (out, err, status) = run(&write(&b), words);
+        let (out, err, status) = if i % 3 == 0 { run(&write(&b), words) } else { run_named(&write(&b), words, i % 3 == 1) };
         sent += (word == b.word) as u64;
         wrong_good += (word != b.word && good) as u64;
         outcomes[["Sure", "Kept", "Open"].iter().position(|o| want.contains(o)).unwrap()] += 1;
@@ -110,10 +122,23 @@ fn main() {
             println!("damaged: seed {i} {what}: {status:?} {err}{out}");
         }
     }
-    let (out, err, status) = run(&write(&made(0, &How::default())), "loud");
-    if (out.as_str(), status) != ("", Some(1)) || err.lines().count() != 1 {
-        differ += 1;
-        println!("an unknown word: {status:?} {err}{out}");
+    let file = write(&made(0, &How::default()));
+    let usage = "usage: burst [soft] [metrics] [FILE]\n";
+    for (what, command, told, is_printed) in [
+        ("an unknown word", "target/bin/burst --loud", format!("burst: unknown argument --loud\n{usage}"), false),
+        ("a second file", "target/bin/burst loud louder", format!("burst: unknown argument louder\n{usage}"), false),
+        ("a missing file", "target/bin/burst loud", "burst: loud: No such file or directory\n".into(), false),
+        ("a folder", "target/bin/burst soft oracle", "burst: the input: Is a directory\n".into(), false),
+        ("a full device", "target/bin/burst soft >/dev/full", "burst: standard output: No space left on device\n".into(), false),
+        ("help on a full device", "target/bin/burst -h >/dev/full", "burst: standard output: No space left on device\n".into(), false),
+        ("help", "target/bin/burst soft --help", "".into(), true),
+        ("help, short", "target/bin/burst -h", "".into(), true),
+    ] {
+        let (out, err, _) = shell(&file, command);
+        if !err.starts_with(&told) || is_printed != out.starts_with(usage) || is_printed == out.is_empty() || is_printed != err.is_empty() {
+            differ += 1;
+            println!("{what}: {err}{out}");
+        }
     }
     println!("{all} bursts: {floats} floats; Sure, Kept, Open {outcomes:?}; {sent} words as sent, {wrong_good} others with a good CRC; {bad} damaged files; {differ} differ");
     std::process::exit((differ > 0) as i32);

@@ -23,6 +23,12 @@ older() {
     [ -n "$(find "$@" -newer "$target" -print 2>/dev/null | head -n 1)" ]
 }
 
+# NAME: a static library of ours, with the proof's own words only where it fails
+our_library() {
+    mkdir -p "$root/target"
+    (cd "$root" && rt staticlib "$1") >"$root/target/staticlib-$1.log" 2>&1 || { cat "$root/target/staticlib-$1.log" >&2; exit 1; }
+}
+
 # OUT SUMS: the Rust as a library, where anything of it is newer
 rust_library() {
     needs_rust

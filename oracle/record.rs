@@ -1,5 +1,6 @@
-// Writes recorded answers of the Rust to standard output, for crates/vectors/stdin: 17 bytes a record.
-use ion::phy_mfsk::hook::{Fmt, Kind, MfskMode, Terms, air, code, decode_terms, decode_terms_told, soft_terms, windows};
+// Writes recorded answers of the Rust to standard output, 17 bytes a record: for crates/vectors/stdin, or with the word
+// `series` fits and series of the tracker, for crates/series/stdin.
+use ion::phy_mfsk::hook::{Fmt, Kind, MfskMode, Terms, Tracker, air, code, decode_terms, decode_terms_told, fit_drift, soft_terms, windows};
 use std::io::Write;
 
 /// The terms that crates/vectors works out from a seed: whole numbers from -2 to 2, with the values of a header raised by up to 7.
@@ -24,13 +25,57 @@ fn burst(mode: MfskMode, kind: Kind, symbols: bool, window: usize, bits: usize, 
     out.metrics.iter().chain(&out.llrs).fold(seed, |h, x| air::mix64(h ^ x.to_bits() as u64))
 }
 
-fn main() {
-    let mut out = Vec::new();
-    let mut put = |what: u8, asked: u64, answer: u64| {
-        out.push(what);
-        out.extend(asked.to_le_bytes());
-        out.extend(answer.to_le_bytes());
-    };
+/// What a refusal's number is added to.
+const REFUSED: u64 = 1 << 32;
+
+fn drawn(seed: u64, i: usize) -> u64 {
+    air::mix64(seed ^ (i as u64) << 32)
+}
+
+fn below(x: u64, n: u32) -> f64 {
+    ((x % 65536) as u32 % n) as f64
+}
+
+/// The drift of the blocks that crates/series works out from a seed, or the refusal of one that is out of range.
+fn fit(mode: MfskMode, seed: u64, n: usize, bad: bool) -> u64 {
+    let slope = (below(seed, 64) - 32.0) / 64.0;
+    let line = |i: usize| slope * i as f64 + (below(drawn(seed, i) >> 8, 2001) - 1000.0) / 128.0;
+    let blocks: Vec<(f64, f64)> = (0..n).map(|i| ((64 * i as u64 + drawn(seed, i) % 64) as f64 / 2.0, if bad && i == 1 { 5000.0 } else { line(i) })).collect();
+    if blocks.iter().any(|b| b.1.abs() > 4096.0) {
+        return REFUSED + 10;
+    }
+    fit_drift(&blocks, Fmt::of(mode).sym).to_bits()
+}
+
+/// The digest that crates/series makes of a series of calls from a fresh tracker, its samples worked out from a seed: some are Missed, some out of range.
+fn series(mode: MfskMode, seed: u64, calls: usize) -> u64 {
+    let mut t = Tracker::new(mode);
+    let mut h = seed;
+    for c in 0..calls {
+        let x = drawn(seed, c);
+        let early = if (x >> 52) % 64 == 0 { 2e9 } else { below(x >> 8, 1000) };
+        let heard = (x % 8 != 0).then(|| (early, below(x >> 24, 1000) + below(seed, 256), below(x >> 40, 100)));
+        let number = match heard {
+            Some((early, _, _)) if early > 1e9 => 8,
+            _ if t.shifts().len() == 2048 => 9,
+            _ => 0,
+        };
+        if number == 0 {
+            t.symbol(heard);
+        }
+        h = air::mix64(h ^ number);
+    }
+    let (n, shift, tnum, tden, _, drift) = t.state();
+    let fields = [n as u64, (shift as f64).to_bits(), tnum.to_bits(), tden.to_bits(), drift.to_bits(), t.blocks().len() as u64];
+    let shifts = (0..2048).map(|i| (t.shifts().get(i).copied().unwrap_or(0) as f64).to_bits());
+    let blocks = (0..64).flat_map(|i| t.blocks().get(i).map_or([0, 0], |b| [(2.0 * b.0) as u64, b.1.to_bits()]));
+    fields.into_iter().chain(shifts).chain(blocks).fold(h, |h, x| air::mix64(h ^ x))
+}
+
+/// Takes what was asked, its argument and the answer.
+type Put<'a> = &'a mut dyn FnMut(u8, u64, u64);
+
+fn vectors(put: Put) {
     for n in (0..=320).chain((0..=128).map(|i| 80 * i)) {
         put(0, n, air::interleave_mult(n as usize) as u64);
     }
@@ -108,6 +153,37 @@ fn main() {
     }
     for z in [0, 1, 1234567, 1 << 63, u64::MAX] {
         put(7, z, air::mix64(z));
+    }
+}
+
+/// Each through the entry itself and through the C function.
+fn drifts(put: Put) {
+    for way in 0..2u8 {
+        for (m, mode) in [MfskMode::R0, MfskMode::R1].into_iter().enumerate() {
+            let what = 192 + m as u8 + 2 * way;
+            for n in [0, 1, 5, 6, 7, 16, 33, 63, 64] {
+                for (seed, bad) in [(11 + n, false), (200 + 7 * n, false), (300 + n, true)] {
+                    put(what, seed | n << 32 | (bad as u64) << 48, fit(mode, seed, n as usize, bad));
+                }
+            }
+            for calls in [0, 1, 2, 3, 34, 66, 300, 1000, 2048, 2200] {
+                let seed = 1000 + 17 * calls;
+                put(what + 4, seed | calls << 32, series(mode, seed, calls as usize));
+            }
+        }
+    }
+}
+
+fn main() {
+    let mut out = Vec::new();
+    let mut put = |what: u8, asked: u64, answer: u64| {
+        out.push(what);
+        out.extend(asked.to_le_bytes());
+        out.extend(answer.to_le_bytes());
+    };
+    match std::env::args().nth(1).as_deref() {
+        Some("series") => drifts(&mut put),
+        _ => vectors(&mut put),
     }
     std::io::stdout().write_all(&out).unwrap();
 }

@@ -85,6 +85,11 @@ fn by_channel(o: &Oracle, d: &mut Dice, i: u64, c: &mut Check) {
     let (mode, kind) = named(d, i);
     let how = channel(d, mode, kind, 0);
     let terms = made(d.word(), &how).header_terms;
+    read_and_rank(o, c, d, mode, kind, terms)
+}
+
+/// The same with areas as they should be, and one that is out in the first pass against the search in f64.
+fn read_and_rank(o: &Oracle, c: &mut Check, d: &mut Dice, mode: u8, kind: u8, terms: Vec<f32>) {
     if let Some((word, score)) = read(o, c, d, mode, kind, terms.clone(), Header::lengths(header_bits(kind))) {
         rivals::hold(c, mode, &terms, word, score);
     }
@@ -157,7 +162,7 @@ fn random(o: &Oracle, d: &mut Dice, i: u64, c: &mut Check) {
             t
         }
     };
-    read(o, c, d, mode, kind, t, Header::lengths(n));
+    read_and_rank(o, c, d, mode, kind, t)
 }
 
 /// A good header with one to three damages: names, five lengths, terms out of range. Some are harmless, and are then read.
