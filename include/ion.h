@@ -81,8 +81,8 @@ uint32_t ion_header_values(uint8_t mode, uint8_t kind, const uint8_t *bits, size
  * - Sure in pass 1, any accepted terms: the score is the word's own, added in f32 as the receiver adds it, and no other word, closed or
  *   not, has a greater one. For terms within +-2^a (a from 0 to 20) no word's exact score is above the word's by more than 2^(a-8):
  *   with terms within +-64 no word beats it by more than a quarter of a point.
- * - Whole terms from -800 to 800: then no word beats it at all; and the score of Sure in any pass and of Kept is exactly what the word's
- *   sent symbols earn.
+ * - Whole terms from -800 to 800: no word beats one that is Sure in pass 1; and the score of Sure in any pass and of Kept is exactly what
+ *   the word's sent symbols earn.
  * - Sure in pass 2 or 3, Kept: a closed word that the search gives. It need not be the best one.
  * - Open: no closed word was found; the word is no header's.
  * Refused: 1, 4 (one of the five lengths), 6 (a term not finite or beyond +-1,000,000). */
