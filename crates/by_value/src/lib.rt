@@ -5,7 +5,7 @@ ghost use Prim.Native.Nat.{_≤_};
 ghost use lib.ListN.{take};
 ghost use Rattle.fit.specs.Fit.{meaning, fitAnswer};
 ghost use Rattle.tracker.specs.Rule as Rule;
-ghost use Rattle.drift.specs.Call.{trackerAfter, shiftsAfter, blocksAfter};
+ghost use Rattle.drift.specs.Entry.{trackerAfter, shiftsAfter, blocksAfter};
 use blocks::Block;
 use fit::Fit;
 use tracker::Sample;

@@ -26,10 +26,11 @@ use Rattle.tracker.specs.declared.Sample.{Sample}
 use Rattle.tracker.specs.declared.Tracker.{Tracker}
 use Rattle.tracker.proofs.Accepted.{accepted-says, after-same}
 use Rattle.tracker.proofs.Answers.{listed, few, answers}
-use Rattle.drift.specs.Call.{moved, storedOf, pushedOnto, fittedOf, call}
-use Rattle.drift.specs.Inside.{Steps, Called, callIn}
-use Rattle.drift.specs.declared.Moved.{Moved}
-use Rattle.drift.specs.declared.Stepped.{Stepped}
+use Rattle.call.specs.Call.{moved, storedOf, pushedOnto, fittedOf, call}
+use Rattle.call.specs.Inside.{Steps, callIn}
+use Rattle.drift.specs.Inside.{Called}
+use Rattle.call.specs.declared.Moved.{Moved}
+use Rattle.call.specs.declared.Stepped.{Stepped}
 
 module _ (mode : ℕ) (t : Tracker) (shifts : List ℤ) (bs : List Block) (s : Sample) (k : ℕ) (g : Gathered) (read : Readable mode t (length bs) k)
     (so : Gathers bs k g) where

@@ -29,7 +29,7 @@ use Rattle.util.specs.Choose.{choose}
 use Rattle.frame.specs.Format.{r0, r1, formatOf}
 use Rattle.blocks.specs.Doubles.{_⊕_, _⊖_, _⊗_, _⊘_, asF64, fraction, within}
 use Rattle.tracker.specs.Rule.{blockLength, energy, inRange, sumsKept}
-use Rattle.drift.specs.Call.{numAfter, denAfter, meanShift, misOf}
+use Rattle.call.specs.Call.{numAfter, denAfter, meanShift, misOf}
 use Rattle.tracker.specs.declared.Sample.{Sample}
 use Rattle.tracker.specs.declared.Sample.the-variants.{Heard, Missed}
 use Rattle.tracker.specs.declared.Tracker.{Tracker}

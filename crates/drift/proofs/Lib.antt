@@ -1,9 +1,6 @@
 -- Laws of this crate's definitions, for its own proofs and its callers'.
-pub mod Words
-pub mod Handed
 pub mod Shared
 pub mod Called
-pub mod Lists
 pub mod Unread
 pub mod Moves
 pub mod Heard

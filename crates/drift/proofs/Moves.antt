@@ -20,7 +20,7 @@ use Rattle.util.specs.Choose.{choose}
 use Rattle.frame.specs.Format.{r0, r1, formatOf}
 use Rattle.blocks.specs.Doubles.{_⊕_, _⊖_, _⊗_, asF64, fraction}
 use Rattle.fit.specs.Fit.{limitOf}
-use Rattle.drift.specs.Call.{shiftAfter}
+use Rattle.call.specs.Call.{shiftAfter}
 use Rattle.drift.specs.Series.{farthest}
 
 -- one up and one down from the far ends

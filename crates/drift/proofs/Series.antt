@@ -27,10 +27,10 @@ use Rattle.blocks.specs.Doubles.{_⊗_, asF64, within, every}
 use Rattle.blocks.specs.Blocks.{nowhere, place2At, timingAt, before, goodAt}
 use Rattle.fit.specs.Fit.{limitOf, goodBlocks}
 use Rattle.tracker.specs.Rule.{blockLength, waiting, inWholeBlocks, countKept, placesKept, driftKept, sumsKept, shiftKept, rule, inRange, trackAnswer}
-use Rattle.drift.specs.Call.{unpushed, numAfter, denAfter, blockOf, shiftAfter, followed, judgedOf, moved, storedOf, fittedOf, call, pushedOnto}
+use Rattle.call.specs.Call.{unpushed, numAfter, denAfter, blockOf, shiftAfter, followed, judgedOf, moved, storedOf, fittedOf, call, pushedOnto}
 use Rattle.drift.specs.Series.{Burst, begun, next, after, acceptedIn, farthest}
 use Rattle.blocks.specs.declared.Block.{Block}
-use Rattle.drift.specs.declared.Moved.{Moved}
+use Rattle.call.specs.declared.Moved.{Moved}
 use Rattle.tracker.specs.declared.Sample.{Sample}
 use Rattle.tracker.specs.declared.Tracker.{Tracker}
 use Rattle.blocks.proofs.Further.{every-at, every-same, every-all, every-true}

@@ -26,8 +26,9 @@ use Rattle.blocks.proofs.Same.{good-same}
 use Rattle.fit.specs.Fit.{goodBlocks}
 use Rattle.fit.proofs.Same.{blocks-same}
 use Rattle.tracker.specs.Rule.{blockLength, waiting, inWholeBlocks, callsKept, countKept, placesKept, driftKept, sumsKept, shiftKept, inRange, trackAnswer}
-use Rattle.drift.specs.Call.{numAfter, denAfter, meanShift, misOf, ended, judgedOf, moved, storedOf, fittedOf, call, trackerAfter}
-use Rattle.drift.specs.declared.Moved.{Moved}
+use Rattle.call.specs.Call.{numAfter, denAfter, meanShift, misOf, ended, judgedOf, moved, storedOf, fittedOf, call}
+use Rattle.drift.specs.Entry.{trackerAfter}
+use Rattle.call.specs.declared.Moved.{Moved}
 use Rattle.tracker.specs.declared.Sample.{Sample}
 use Rattle.tracker.specs.declared.Tracker.{Tracker}
 use Rattle.tracker.proofs.Accepted.{Accepted, accepted-says, after-same}

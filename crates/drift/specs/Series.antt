@@ -6,7 +6,7 @@ use lib.IntN.{ℤ}
 use Rattle.util.specs.Choose.{choose}
 use Rattle.util.specs.Refusal.{afterwards}
 use Rattle.tracker.specs.Rule.{freshOf, trackAnswer}
-use Rattle.drift.specs.Call.{trackerAfter, shiftsAfter, blocksAfter}
+use Rattle.drift.specs.Entry.{trackerAfter, shiftsAfter, blocksAfter}
 use Rattle.blocks.specs.declared.Block.{Block}
 use Rattle.tracker.specs.declared.Sample.{Sample}
 use Rattle.tracker.specs.declared.Tracker.{Tracker}

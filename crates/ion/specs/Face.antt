@@ -1,87 +1,13 @@
--- The face of the entries to C: a number, and results that are written only where it is 0 (`number` and `place` of util's Refusal).
+-- The soft values' face to C: the number (`number` of util's Refusal), and the three lent lists at exit.
 use Prim.Native.Nat.{ℕ}
 use mathlib.Core.List.{List}
 use mathlib.Core.Path.{_≡_}
-use lib.Dec.{eqb}
-use lib.IntN.{ℤ}
 use lib.Ieee.{Float}
-use Rattle.util.specs.Choose.{choose}
-use Rattle.util.specs.Refusal.{Outcome, number, place}
-use Rattle.ieee.specs.Whole.{plusZero}
-use Rattle.trellis.specs.Answer as Answer
-use Rattle.trellis.specs.Answer.{scoreIn}
-use Rattle.header.specs.Read.{Areas, headerRead, areaAfter}
+use Rattle.util.specs.Refusal.{number}
 use Rattle.soft.specs.Entry.{Asked, softAnswer, workAfter, metricsAfter, softAfter}
-use Rattle.drift.specs.Lists.{trackOver, LentAfter}
-use Rattle.tracker.specs.declared.Tracker.{Tracker}
-use Rattle.tracker.specs.declared.Sample.{Sample}
-use Rattle.tracker.specs.declared.Sample.the-variants.{Heard, Missed}
 
--- ---- a header read
-
--- its outcome as numbers: 0 Sure, 1 Kept, 2 Open; the pass of a Sure, else 0
-abbrev pub outcomeNumber : Answer.Outcome Float → ℕ
-outcomeNumber (Answer.Sure x pass) = 0
-outcomeNumber (Answer.Kept x) = 1
-outcomeNumber (Answer.Open x) = 2
-
-abbrev pub passNumber : Answer.Outcome Float → ℕ
-passNumber (Answer.Sure x pass) = pass
-passNumber (Answer.Kept x) = 0
-passNumber (Answer.Open x) = 0
-
--- the four places lent for its answer
-pub record Lent : Type 0 where
-  pub word : ℕ
-  pub outcome : ℕ
-  pub pass : ℕ
-  pub score : Float
-
-abbrev pub lent : ℕ → ℕ → ℕ → Float → Lent
-lent word outcome pass score = record { word = word; outcome = outcome; pass = pass; score = score }
-
--- the answer that they hold
-abbrev pub answerAt : Lent → Answer.Answer Float
-answerAt l =
-    record {
-      word = l .word;
-      outcome = choose (eqb (l .outcome) 0) (Answer.Sure (l .score) (l .pass)) (choose (eqb (l .outcome) 1) (Answer.Kept (l .score)) (Answer.Open (l .score)));
-    }
-
--- by the entry's outcome o: the number, the four places and the four areas at exit
-pub record Faced (o : Outcome (Answer.Answer Float)) (w w′ : Areas) (was new : Lent) (r : ℕ) : Type 0 where
-  pub answer : r ≡ number o
-  pub of-word : new .word ≡ place (λ (a : Answer.Answer Float). a .word) o (was .word)
-  pub of-outcome : new .outcome ≡ place (λ (a : Answer.Answer Float). outcomeNumber (a .outcome)) o (was .outcome)
-  pub of-pass : new .pass ≡ place (λ (a : Answer.Answer Float). passNumber (a .outcome)) o (was .pass)
-  pub of-score : new .score ≡ place (λ (a : Answer.Answer Float). scoreIn (a .outcome)) o (was .score)
-  pub of-scores : w′ .scores ≡ areaAfter o plusZero (w .scores)
-  pub of-next : w′ .next ≡ areaAfter o plusZero (w .next)
-  pub of-start : w′ .start ≡ areaAfter o plusZero (w .start)
-  pub of-decisions : w′ .decisions ≡ areaAfter o 0 (w .decisions)
-
-abbrev pub HeaderFace : ℕ → ℕ → List Float → Areas → Areas → Lent → Lent → ℕ → Type 0
-HeaderFace mode kind terms w w′ was new r = Faced (headerRead mode kind terms w) w w′ was new r
-
--- ---- metrics and soft bits: the number, and the three lent lists at exit
 pub record SoftFace (q : Asked) (r : ℕ) (work′ metrics′ soft′ : List Float) : Type 0 where
   pub answer : r ≡ number (softAnswer q)
   pub of-work : work′ ≡ workAfter q
   pub of-metrics : metrics′ ≡ metricsAfter q
   pub of-soft : soft′ ≡ softAfter q
-
--- ---- the tracker
-
--- by its fields, each a place of its own
-abbrev pub trackerOf : ℕ → ℤ → Float → Float → Float → ℕ → Tracker
-trackerOf n shift tnum tden drift blocks = record { n = n; shift = shift; tnum = tnum; tden = tden; drift = drift; blocks = blocks }
-
--- a sample: heard 0 is Missed, and the doubles are not looked at
-abbrev pub sampleOf : ℕ → Float → Float → Float → Sample
-sampleOf heard early late noise = choose (eqb heard 0) Missed (Heard early late noise)
-
--- the number, and tracker, shifts and both lists at exit
-pub record TrackFace (mode : ℕ) (t : Tracker) (shifts : List ℤ) (places : List ℕ) (timings : List Float) (s : Sample)
-    (r : ℕ) (t′ : Tracker) (shifts′ : List ℤ) (places′ : List ℕ) (timings′ : List Float) : Type 0 where
-  pub answer : r ≡ number (trackOver mode t shifts places timings s)
-  pub lent : LentAfter mode t shifts places timings s t′ shifts′ places′ timings′

@@ -1,40 +1,9 @@
 // A header read. Where 0 is returned, `claims` says of the answer what the entry's own promise does: demand 3, for whole
 // terms from -800 to 800, and what holds of every read that is not refused.
 ghost use mathlib.Core.Path.{_≡_};
-ghost use Rattle.trellis.specs.Answer.{scoreIn};
 ghost use Rattle.trellis.specs.Demand.{Claims};
-ghost use Rattle.header.specs.Read.{outcomeIs, areas};
-ghost use Rattle.ion.specs.Face.{outcomeNumber, passNumber, lent, answerAt, HeaderFace};
-
-// An outcome as numbers.
-struct Numbers {
-    outcome: u8,
-    pass: u8,
-    score: f32,
-}
-
-fn in_numbers(outcome: header::Outcome) -> Numbers
-    ensures { λ r. ⌜ (r .outcome ≡ outcomeNumber (outcomeIs outcome)) × (r .pass ≡ passNumber (outcomeIs outcome))
-        × (r .score ≡ scoreIn (outcomeIs outcome)) ⌝ }
-{
-    match outcome {
-        header::Outcome::Sure(x, pass) => Numbers {
-            outcome: 0,
-            pass,
-            score: x,
-        },
-        header::Outcome::Kept(x) => Numbers {
-            outcome: 1,
-            pass: 0,
-            score: x,
-        },
-        header::Outcome::Open(x) => Numbers {
-            outcome: 2,
-            pass: 0,
-            score: x,
-        },
-    }
-}
+ghost use Rattle.header.specs.Read.{areas};
+ghost use Rattle.header_face.specs.Face.{lent, answerAt, HeaderFace};
 
 #[no_mangle]
 pub extern "C" fn ion_read_header(
@@ -58,16 +27,17 @@ pub extern "C" fn ion_read_header(
     ensures claims { λ r. ⌜ (r ≡ 0 → Claims mode kind (now (terms .entry))
         (answerAt (lent (now (word .exit)) (now (outcome .exit)) (now (pass .exit)) (now (score .exit))))) ⌝ }
 {
-    match header::read_header(mode, kind, terms, scores, next, start, decisions) {
-        header::HeaderRead::Answer(a) => {
-            let o = a.outcome;
-            let numbers = in_numbers(o);
-            *word = a.word;
-            *outcome = numbers.outcome;
-            *pass = numbers.pass;
-            *score = numbers.score;
-            0
-        }
-        header::HeaderRead::Refused(k) => k as u32,
-    }
+    header_face::read(
+        mode,
+        kind,
+        terms,
+        scores,
+        next,
+        start,
+        decisions,
+        word,
+        outcome,
+        pass,
+        score,
+    )
 }

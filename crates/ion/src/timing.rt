@@ -3,11 +3,7 @@
 ghost use mathlib.Core.Path.{_≡_};
 ghost use Rattle.util.specs.Refusal.{number, place, itself};
 ghost use Rattle.fit.specs.Lists.{fitOver};
-ghost use Rattle.tracker.specs.Rule.{meaning};
-ghost use Rattle.ion.specs.Face.{trackerOf, sampleOf, TrackFace};
-use tracker::Sample;
-use tracker::Tracked;
-use tracker::Tracker;
+ghost use Rattle.tracker_face.specs.Face.{trackerOf, sampleOf, TrackFace};
 
 #[no_mangle]
 pub extern "C" fn ion_fit_drift(mode: u8, places: &[u32], timings: &[f64], drift: &mut f64) -> u32
@@ -20,25 +16,6 @@ pub extern "C" fn ion_fit_drift(mode: u8, places: &[u32], timings: &[f64], drift
             0
         }
         fit::Fit::Refused(k) => k as u32,
-    }
-}
-
-fn sample_of(heard: u8, early: f64, late: f64, noise: f64) -> Sample
-    ensures { λ r. ⌜ r ≡ sampleOf heard early late noise ⌝ }
-{
-    if heard == 0 {
-        Sample::Missed
-    } else {
-        Sample::Heard(early, late, noise)
-    }
-}
-
-fn number_of(answer: Tracked) -> u32
-    ensures { λ r. ⌜ r ≡ number (meaning answer) ⌝ }
-{
-    match answer {
-        Tracked::Done => 0,
-        Tracked::Refused(k) => k as u32,
     }
 }
 
@@ -65,29 +42,20 @@ pub extern "C" fn ion_track_timing(
         (trackerOf (now (n .exit)) (now (shift .exit)) (now (tnum .exit)) (now (tden .exit)) (now (drift .exit)) (now (blocks .exit)))
         (now (shifts .exit)) (now (places .exit)) (now (timings .exit)) ⌝ }
 {
-    let z = *shift;
-    let t = Tracker {
-        n: *n,
-        shift: z,
-        tnum: *tnum,
-        tden: *tden,
-        drift: *drift,
-        blocks: *blocks,
-    };
-    let s = sample_of(heard, early, late, noise);
-    let did = drift::track_over(mode, t, shifts, places, timings, s);
-    let answer = did.answer;
-    let told = number_of(answer);
-    if !did.done {
-        return told;
-    }
-    let next = did.next;
-    let z = next.shift;
-    *n = next.n;
-    *shift = z;
-    *tnum = next.tnum;
-    *tden = next.tden;
-    *drift = next.drift;
-    *blocks = next.blocks;
-    told
+    tracker_face::track(
+        mode,
+        n,
+        shift,
+        tnum,
+        tden,
+        drift,
+        blocks,
+        shifts,
+        places,
+        timings,
+        heard,
+        early,
+        late,
+        noise,
+    )
 }

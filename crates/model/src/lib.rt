@@ -21,7 +21,8 @@ pub fn metric(terms: &[f32], symbol: usize, e: usize) -> f32
 // Inside: the metrics of a symbol's 32 values, on any grid.
 pub fn metrics(bins: u64, h: u64, terms: &[f32], symbol: usize) -> [f32; 32]
     requires { ⌜ (0 < bins) × (bins ≤ 48) × (h < bins) × (symbol * 260 + 260 ≤ length (now terms)) ⌝ }
-    ensures { λ r. ⌜ (length r ≡ 32) × ((v : ℕ) → v < 32 → getD r v nan ≡ metricOf (add binary32) plusZero (λ i. getD (now (terms .entry)) i nan) symbol (placeOf (binOf bins h v))) ⌝ }
+    ensures { λ r. ⌜ (length r ≡ 32) × ((v : ℕ) → v < 32 → getD r v nan
+        ≡ metricOf (add binary32) plusZero (λ i. getD (now (terms .entry)) i nan) symbol (placeOf (binOf bins h v))) ⌝ }
 {
     let mut out = [0.0f32; 32];
     for v in 0..32usize {

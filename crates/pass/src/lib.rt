@@ -58,7 +58,8 @@ fn states(scores: &[f32], metrics: &[f32], j: usize, w: usize, next: &mut [f32])
 // All states of step j: their scores go to `next`, their decisions to the step's 256 words.
 fn step(scores: &[f32], metrics: &[f32], j: usize, next: &mut [f32], decisions: &mut [u64])
     requires { ⌜ Metrics (now metrics) ⌝ }
-    requires { ⌜ (length (now scores) ≡ 16384) × (j < stepsIn (now metrics)) × (length (now next) ≡ 16384) × (length (now decisions) ≡ stepsIn (now metrics) * 256) ⌝ }
+    requires { ⌜ (length (now scores) ≡ 16384) × (j < stepsIn (now metrics)) × (length (now next) ≡ 16384)
+        × (length (now decisions) ≡ stepsIn (now metrics) * 256) ⌝ }
     ensures { λ _. ⌜ Stepped (now (metrics .entry)) (now (scores .entry)) j (now (next .exit)) (now (decisions .entry)) (now (decisions .exit)) ⌝ }
 {
     let mut w = 0usize;
@@ -83,7 +84,8 @@ pub fn copy(from: &[f32], to: &mut [f32])
 // Step j of a pass. Its scores are copied back.
 fn turn(metrics: &[f32], j: usize, scores: &mut [f32], next: &mut [f32], decisions: &mut [u64])
     requires { ⌜ Metrics (now metrics) ⌝ }
-    requires { ⌜ (length (now scores) ≡ 16384) × (j < stepsIn (now metrics)) × (length (now next) ≡ 16384) × (length (now decisions) ≡ stepsIn (now metrics) * 256) ⌝ }
+    requires { ⌜ (length (now scores) ≡ 16384) × (j < stepsIn (now metrics)) × (length (now next) ≡ 16384)
+        × (length (now decisions) ≡ stepsIn (now metrics) * 256) ⌝ }
     ensures { λ _. ⌜ Stepped (now (metrics .entry)) (now (scores .entry)) j (now (scores .exit)) (now (decisions .entry)) (now (decisions .exit)) ⌝ }
     ensures size { λ _. ⌜ length (now (next .exit)) ≡ 16384 ⌝ }
 {

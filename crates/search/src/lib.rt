@@ -24,7 +24,8 @@ struct Traced {
 // The traceback from state `end` over the survivors. The last bit is met first, so each earlier one goes in below it.
 fn trace(decisions: &[u64], steps: usize, end: usize) -> Traced
     requires { ⌜ (end < 16384) × (steps ≤ 64) × (length (now decisions) ≡ steps * 256) ⌝ }
-    ensures { λ r. ⌜ (r .word ≡ traceWord 16384 (packed (now (decisions .entry))) steps end) × (r .start ≡ traceStart 16384 (packed (now (decisions .entry))) steps end) × (r .start < 16384) ⌝ }
+    ensures { λ r. ⌜ (r .word ≡ traceWord 16384 (packed (now (decisions .entry))) steps end)
+        × (r .start ≡ traceStart 16384 (packed (now (decisions .entry))) steps end) × (r .start < 16384) ⌝ }
 {
     let mut word = 0u64;
     let mut s = end;
@@ -75,7 +76,8 @@ fn consider(decisions: &[u64], steps: usize, best: Best, gain: f32, s: usize) ->
 // The candidates of a pass, in state order, after the best of earlier passes.
 fn scan(decisions: &[u64], steps: usize, scores: &[f32], start: &[f32], first: Best) -> Best
     requires { ⌜ (length (now scores) ≡ 16384) × (length (now start) ≡ 16384) × (steps ≤ 64) × (length (now decisions) ≡ steps * 256) ⌝ }
-    ensures { λ r. ⌜ bestIs r ≡ scanned (packed (now (decisions .entry))) steps (table (now (scores .entry))) (table (now (start .entry))) (bestIs first) 16384 ⌝ }
+    ensures { λ r. ⌜ bestIs r ≡ scanned (packed (now (decisions .entry))) steps (table (now (scores .entry)))
+        (table (now (start .entry))) (bestIs first) 16384 ⌝ }
 {
     let mut best = first;
     let mut s = 0usize;

@@ -1,51 +1,23 @@
--- The public entry's answer on each way of the code: the first cause that holds, and then every list is as it was; or none holds.
--- Assumes nothing.
+-- What the public entry leaves in each list, refused or not, and what is known of what was asked where it is accepted. Assumes nothing.
 use Prim.Native.Nat.{ℕ, _*_, _≤_}
 use mathlib.Core.Bool.{Bool, true, false, and-eq-true-iff}
 use mathlib.Core.List.{List, [], _∷_}
 use mathlib.Core.Path.{_≡_, refl, sym, ap, ap₂, _∙_}
 use native.Mathlib.Omega.{arith}
 use borrow.Author.Tests.{eqb-true, ltb-false, not-false}
-use lib.Dec.{ltb}
 use lib.ListN.{length, replicate}
 use lib.Ieee.{Float}
 use Rattle.util.specs.Choose.{choose}
 use Rattle.util.specs.Some.{someOf}
 use Rattle.util.specs.Refusal.{Cause, Outcome, refused, accepted, outcome, afterwards}
-use Rattle.frame.specs.Format.{formatOf, named, listed}
+use Rattle.frame.specs.Format.{formatOf, listed}
 use Rattle.ieee.specs.Whole.{plusZero}
 use Rattle.model.specs.Range.{someOut}
-use Rattle.soft.specs.Burst.{symbolsOf, metricsOut, softOut}
-use Rattle.soft.specs.Inside.{Lent, Made}
+use Rattle.forms.specs.Burst.{symbolsOf, metricsOut, softOut}
+use Rattle.forms.specs.Inside.{Lent, Made}
 use Rattle.soft.specs.Entry.{Asked, countOut, sizes, sized, causes, softAnswer, valuesOf, metricsAfter, softAfter, workAfter}
 
 module _ (a : Asked) where
-  pub first : named (a .mode) (a .kind) ≡ false → softAnswer a ≡ refused 1
-  first one = rw one
-
-  module _ (one : named (a .mode) (a .kind) ≡ true) where
-    pub second : ltb 10240 (a .bits) ≡ true → softAnswer a ≡ refused 2
-    second two = rw (one, two)
-
-    module _ (two : ltb 10240 (a .bits) ≡ false) where
-      pub third : listed (a .window) (formatOf (a .mode) .windows) ≡ false → softAnswer a ≡ refused 3
-      third three = rw (one, two, three)
-
-      module _ (three : listed (a .window) (formatOf (a .mode) .windows) ≡ true) where
-        pub fourth : sized a ≡ false → softAnswer a ≡ refused 4
-        fourth four = rw (one, two, three, four)
-
-        module _ (four : sized a ≡ true) where
-          pub sixth : someOut (a .terms) ≡ true → softAnswer a ≡ refused 6
-          sixth six = rw (one, two, three, four, six)
-
-          module _ (six : someOut (a .terms) ≡ false) where
-            pub seventh : someOf (countOut (a .window)) (a .counts) ≡ true → softAnswer a ≡ refused 7
-            seventh seven = rw (one, two, three, four, six, seven)
-
-            pub none : someOf (countOut (a .window)) (a .counts) ≡ false → softAnswer a ≡ accepted tt
-            none seven = rw (one, two, three, four, six, seven)
-
   -- a refusal leaves every list as it was
   pub stays : (k : ℕ) → softAnswer a ≡ refused k
       → (refused k ≡ softAnswer a) × ((a .work ≡ workAfter a) × ((a .metrics ≡ metricsAfter a) × (a .soft ≡ softAfter a)))

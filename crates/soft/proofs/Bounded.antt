@@ -27,10 +27,10 @@ use Rattle.model.specs.Metric.{termAt, metricOf}
 use Rattle.model.proofs.Terms.{place-in-row, term-in-symbol}
 use Rattle.lse.specs.Lse.{float32, negative}
 use Rattle.symbol.specs.Symbol.{erasedOf}
-use Rattle.soft.specs.Burst.{symbolsOf, received, metricAt, softAt, metricsOut, softOut}
+use Rattle.forms.specs.Burst.{symbolsOf, received, metricAt, softAt, metricsOut, softOut}
 use Rattle.soft.specs.Entry.{Asked, softAnswer, valuesOf}
-use Rattle.soft.proofs.Ways.{value-erased, value-kept}
-use Rattle.soft.proofs.Forms.{scrambled-below}
+use Rattle.forms.proofs.Ways.{value-erased, value-kept}
+use Rattle.forms.proofs.Forms.{scrambled-below}
 use Rattle.soft.proofs.Answer.{accepted-all, lengths-are}
 use Rattle.lse.proofs.Bounds.{lowEnd, highEnd}
 use Rattle.symbol.proofs.Bounds.{out-in, metric-in, soft-in}

@@ -1,6 +1,4 @@
 -- Laws of this crate's definitions.
-pub mod Ways
-pub mod Forms
 pub mod Answer
 pub mod Erased
 pub mod Bounded

@@ -1,4 +1,2 @@
--- What a reader must believe of this crate, in document 01's order: `Burst` and `Entry`. `Inside` is only for contracts of inside functions.
-pub mod Burst
-pub mod Inside
+-- What a reader must believe of this crate: `Entry`, over the definitions of a burst in crate `forms`.
 pub mod Entry

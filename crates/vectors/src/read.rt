@@ -50,7 +50,8 @@ pub fn bits(score: f32) -> u64 {
     records::NONE
 }
 
-fn told(part: u8, word: u64, outcome: u8, pass: u8, score: f32) -> u64 {
+// The part of an answer that a record holds: its word, its outcome and pass, or its score.
+fn part_of(part: u8, word: u64, outcome: u8, pass: u8, score: f32) -> u64 {
     match part {
         0 => word,
         1 => (outcome as u64) + ((pass as u64) << 4),
@@ -97,7 +98,7 @@ fn read(
     if k != 0 {
         return records::refusal(k);
     }
-    told(part, word, outcome, pass, score)
+    part_of(part, word, outcome, pass, score)
 }
 
 pub fn header(what: u8, seed: u64) -> u64 {

@@ -69,7 +69,7 @@ use Rattle.tracker.proofs.Sample as S
 use Rattle.tracker.proofs.Sample.Laws as S′
 use Rattle.tracker.proofs.Tracked as N
 use Rattle.tracker.proofs.Tracked.Laws as N′
-use Rattle.drift.specs.Call.{trackerAfter, shiftsAfter, blocksAfter}
+use Rattle.drift.specs.Entry.{trackerAfter, shiftsAfter, blocksAfter}
 use Rattle.drift.proofs.track_timing as track
 use Rattle.drift.proofs.track_timing.Symbol as track-def
 use Rattle.drift.proofs.track_timing.Symbol.{name as #drift·track-timing}

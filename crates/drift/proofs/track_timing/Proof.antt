@@ -56,16 +56,16 @@ use denote.Exit.{yes}
 use Rattle.util.specs.Choose.{choose}
 use Rattle.util.proofs.Choose.{chosen, not-chosen}
 use Rattle.tracker.specs.Rule.{meaning, trackAnswer}
-use Rattle.drift.specs.Call.{trackerAfter, shiftsAfter, blocksAfter}
+use Rattle.drift.specs.Entry.{trackerAfter, shiftsAfter, blocksAfter}
 use Rattle.blocks.specs.Inside.{Gathers}
 use Rattle.tracker.specs.Inside.{Readable}
-use Rattle.drift.specs.Inside.{Steps}
+use Rattle.call.specs.Inside.{Steps}
 use Rattle.blocks.specs.declared.Block.{Block}
 use Rattle.blocks.specs.declared.Gathered.{Gathered}
 use Rattle.tracker.specs.declared.Sample.{Sample}
 use Rattle.tracker.specs.declared.Tracker.{Tracker}
 use Rattle.tracker.specs.declared.Tracked.{Tracked}
-use Rattle.drift.specs.declared.Stepped.{Stepped}
+use Rattle.call.specs.declared.Stepped.{Stepped}
 use Rattle.drift.proofs.Shared.{LentShared, lends-shared, comes-back}
 use Rattle.drift.proofs.Called.{called-of}
 use Rattle.blocks.proofs.Block as B
@@ -76,8 +76,8 @@ use Rattle.tracker.proofs.Tracker as T
 use Rattle.tracker.proofs.Tracker.Laws as T′
 use Rattle.tracker.proofs.Sample as S
 use Rattle.tracker.proofs.Sample.Laws as S′
-use Rattle.drift.proofs.Stepped as D
-use Rattle.drift.proofs.Stepped.Laws as D′
+use Rattle.call.proofs.Stepped as D
+use Rattle.call.proofs.Stepped.Laws as D′
 use Rattle.tracker.proofs.Tracked as N
 use Rattle.tracker.proofs.Tracked.Laws as N′
 use Rattle.tracker.proofs.readable as reads
@@ -88,10 +88,10 @@ use Rattle.blocks.proofs.gather as gather
 use Rattle.blocks.proofs.gather.Symbol as gather-def
 use Rattle.blocks.proofs.gather.Symbol.{name as #blocks·gather}
 use Rattle.blocks.proofs.gather.Met as gather-thm
-use Rattle.drift.proofs.step as step
-use Rattle.drift.proofs.step.Symbol as step-def
-use Rattle.drift.proofs.step.Symbol.{name as #drift·step}
-use Rattle.drift.proofs.step.Met as step-thm
+use Rattle.call.proofs.step as step
+use Rattle.call.proofs.step.Symbol as step-def
+use Rattle.call.proofs.step.Symbol.{name as #call·step}
+use Rattle.call.proofs.step.Met as step-thm
 use Rattle.blocks.proofs.put_if as put
 use Rattle.blocks.proofs.put_if.Symbol as put-def
 use Rattle.blocks.proofs.put_if.Symbol.{name as #blocks·put-if}
@@ -239,7 +239,7 @@ module _ {M : Type 1} (𝓤 : URA M) (H : Heap 𝓤) (A : Atoms 𝓤) (W : Given
       owned ! u8 (Is u8) (uint-makes 𝓤 H A W w8) mode _ (refl, mode-fits) $ fjoin ! $
       owned ! N.the-row (Is N.the-row) (EL.makes N.the-type N′.the-plain 𝓤 H A) (r .answer) _ (k .1 .0) $ move ! (1 ∷ 0 ∷ []) $ done !
 
-  module _ (C : Calls 𝓤 H) (Λ : Loops 𝓤 H) (fm : FmC 𝓤 H (W .laws) C) (known-reads : Triple 𝓤 (C #tracker·readable) (ReadC 𝓤 H A at-mem run)) (known-gather : Triple 𝓤 (C #blocks·gather) (GatherC 𝓤 H A at-mem run)) (known-step : Triple 𝓤 (C #drift·step) (StepC 𝓤 H A at-mem run)) (known-put : Triple 𝓤 (C #blocks·put-if) (PutC 𝓤 H A at-mem run)) where
+  module _ (C : Calls 𝓤 H) (Λ : Loops 𝓤 H) (fm : FmC 𝓤 H (W .laws) C) (known-reads : Triple 𝓤 (C #tracker·readable) (ReadC 𝓤 H A at-mem run)) (known-gather : Triple 𝓤 (C #blocks·gather) (GatherC 𝓤 H A at-mem run)) (known-step : Triple 𝓤 (C #call·step) (StepC 𝓤 H A at-mem run)) (known-put : Triple 𝓤 (C #blocks·put-if) (PutC 𝓤 H A at-mem run)) where
     -- ---- the branch, and what follows it
     module _ (l₀ l₁ l₂ l₃ l₄ l₅ l₆ l₇ l₈ l₉ l₁₀ l₁₁ l₁₂ l₁₃ l₁₄ l₁₅ l₁₆ l₁₇ l₁₈ : ℕ) (r : Stepped) (zs : List ℤ) (ws : List Block) (k : Known r) (ea : meaning (r .answer) ≡ trackAnswer mode h ys bs s) (et : choose (r .done) (r .next) h ≡ trackerAfter mode h ys bs s)
         (ez : zs ≡ shiftsAfter mode h ys bs s) (ew : ws ≡ blocksAfter mode h ys bs s) (l₁′ : length zs ≡ length ys) (l₂′ : length ws ≡ length bs) (is-h : Is T.the-row h (val-t h ∷ [])) where
@@ -349,7 +349,7 @@ module _ {M : Type 1} (𝓤 : URA M) (H : Heap 𝓤) (A : Atoms 𝓤) (W : Given
         keep ! (1 ∷ 2 ∷ 4 ∷ 5 ∷ 6 ∷ 7 ∷ 8 ∷ 9 ∷ 10 ∷ 11 ∷ 12 ∷ 13 ∷ 14 ∷ 15 ∷ 16 ∷ 17 ∷ 18 ∷ 19 ∷ 20 ∷ 21 ∷ 22 ∷ 23 ∷ 24 ∷ 25 ∷ 26 ∷ 27 ∷ 28 ∷ 29 ∷ 30 ∷ 31 ∷ 32 ∷ 33 ∷ 34 ∷ 35 ∷ 36 ∷ 37 ∷ 38 ∷ 39 ∷ 40 ∷ 41 ∷ 42 ∷ 43 ∷ 44 ∷ 45 ∷ 46 ∷ 47 ∷ []) $
         branch l₀ l₁ l₂ l₃ l₄ l₅ l₆ l₇ l₈ l₉ l₁₀ l₁₁ l₁₂ l₁₃ l₁₄ l₁₅ l₁₆ l₁₇ l₁₈ r (zs .1 .1 .0) (ws .0) (known-of r w₂ is-r) (called-of mode h ys bs s k g ek eg r (zs .1 .1 .0) e .answer) (called-of mode h ys bs s k g ek eg r (zs .1 .1 .0) e .tracker) (called-of mode h ys bs s k g ek eg r (zs .1 .1 .0) e .stored) (ew ∙ called-of mode h ys bs s k g ek eg r (zs .1 .1 .0) e .blocks) l₁′ l₂′ is-h)))))))))))))))))))))))))))))))))))))))))))
 
-module _ {M : Type 1} (𝓤 : URA M) (H : Heap 𝓤) (A : Atoms 𝓤) (W : Given 𝓤 H A) (mem : Memory → SProp 𝓤) (run : Routine → Fun 𝓤) (𝓣 : Tables 𝓤 H) (known-reads : Triple 𝓤 (𝓣 .C #tracker·readable) (ReadC 𝓤 H A mem run)) (known-gather : Triple 𝓤 (𝓣 .C #blocks·gather) (GatherC 𝓤 H A mem run)) (known-step : Triple 𝓤 (𝓣 .C #drift·step) (StepC 𝓤 H A mem run)) (known-put : Triple 𝓤 (𝓣 .C #blocks·put-if) (PutC 𝓤 H A mem run)) where
+module _ {M : Type 1} (𝓤 : URA M) (H : Heap 𝓤) (A : Atoms 𝓤) (W : Given 𝓤 H A) (mem : Memory → SProp 𝓤) (run : Routine → Fun 𝓤) (𝓣 : Tables 𝓤 H) (known-reads : Triple 𝓤 (𝓣 .C #tracker·readable) (ReadC 𝓤 H A mem run)) (known-gather : Triple 𝓤 (𝓣 .C #blocks·gather) (GatherC 𝓤 H A mem run)) (known-step : Triple 𝓤 (𝓣 .C #call·step) (StepC 𝓤 H A mem run)) (known-put : Triple 𝓤 (𝓣 .C #blocks·put-if) (PutC 𝓤 H A mem run)) where
   track-timing-walks : Walks 𝓤 H A f.ended stayed (WpFn 𝓤 H (𝓣 .C) (𝓣 .Λ) code.function) (f.clauses 𝓤 H A mem run)
   track-timing-walks = walked 𝓤 H A f.ended stayed (f.clauses 𝓤 H A mem run) (WpFn 𝓤 H (𝓣 .C) (𝓣 .Λ) code.function)
       (λ κs. (uint-vals w8, (ptr-vals, (slice-vals, (slice-vals, (EL.vals S.the-type S′.the-laws, tt)))))) (λ κs. (uint-tells w8, (mut-tells (named 0) (κs .0) T.the-row, (mut-slice-tells (named 1) (κs .1 .0) i32, (mut-slice-tells (named 2) (κs .1 .1 .0) B.the-row, (EL.tells S.the-type S′.the-laws, tt))))))
@@ -370,5 +370,5 @@ track-timing-spec 𝓤 H 𝓜 𝓖 𝓡 =
     (track-timing-meets 𝓤 H (𝓖 .A) (givenOf 𝓤 H 𝓜 𝓖) (𝓜 .mem) (𝓡 .run) (tablesOf 𝓤 H 𝓜 (tables 𝓤 H 𝓜 𝓡 code.env))
     (cited 𝓤 H (ReadC 𝓤 H (𝓖 .A) (𝓜 .mem) (𝓡 .run)) 𝓜 𝓡 code.env #tracker·readable reads-def.routine code.calls-tracker·readable (reads-thm.met 𝓤 H 𝓜 𝓖 𝓡))
     (cited 𝓤 H (GatherC 𝓤 H (𝓖 .A) (𝓜 .mem) (𝓡 .run)) 𝓜 𝓡 code.env #blocks·gather gather-def.routine code.calls-blocks·gather (gather-thm.met 𝓤 H 𝓜 𝓖 𝓡))
-    (cited 𝓤 H (StepC 𝓤 H (𝓖 .A) (𝓜 .mem) (𝓡 .run)) 𝓜 𝓡 code.env #drift·step step-def.routine code.calls-drift·step (step-thm.met 𝓤 H 𝓜 𝓖 𝓡))
+    (cited 𝓤 H (StepC 𝓤 H (𝓖 .A) (𝓜 .mem) (𝓡 .run)) 𝓜 𝓡 code.env #call·step step-def.routine code.calls-call·step (step-thm.met 𝓤 H 𝓜 𝓖 𝓡))
     (cited 𝓤 H (PutC 𝓤 H (𝓖 .A) (𝓜 .mem) (𝓡 .run)) 𝓜 𝓡 code.env #blocks·put-if put-def.routine code.calls-blocks·put-if (put-thm.met 𝓤 H 𝓜 𝓖 𝓡)))

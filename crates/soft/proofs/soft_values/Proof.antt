@@ -1,90 +1,110 @@
--- `soft::soft_values` meets its contract: each refusal by the tests that led there, and the lists are what `make` wrote.
--- Assumes nothing.
-use mathlib.Core.Path.{sym, _∙_}
+-- `soft::soft_values` meets its contract. A test that does not hold leaves the causes after it (`past1` to `past6`); where one
+-- holds, its number is the answer, and no list was written; past the last test the lists are what `make` wrote. Assumes nothing.
+use Prim.Native.Nat.{ℕ}
+use mathlib.Core.Bool.{true, not}
+use mathlib.Core.Path.{_≡_, sym, ap, _∙_}
 use borrow.Author.Needs.{needs}
-use borrow.Author.Tests.{lt-ltb, le-ltb, not-true, not-false}
-use lib.ListN.{length}
-use Rattle.soft.proofs.Answer.{first, second, third, fourth, sixth, seventh, none, stays, done, lent, count-is, soft-is}
-use Rattle.soft.specs.Entry.{asked}
+use borrow.Author.Tests.{lt-ltb, le-ltb, not-false}
+use lib.ListN.{length, drop}
+use Rattle.util.specs.Refusal.{outcome}
+use Rattle.util.proofs.Choose.{chosen, not-chosen}
+use Rattle.soft.specs.Entry.{Asked, asked, sized, causes, softAnswer}
+use Rattle.soft.proofs.Answer.{stays, done, lent, count-is, soft-is}
 use Rattle.soft.proofs.soft_values.Statement.{statement}
 use Rattle.soft.proofs.soft_values.Tie as tie
+
+-- what is asked, at the place after the first test's call
+abbrev asks : tie.After-is-named → Asked
+asks c =
+    let g = c .before .before .before .before .before .before .args in
+    asked (g .mode) (g .kind) (g .symbols) (g .window) (g .bits) (g .terms .now) (g .blanked .now) (g .work .now) (g .metrics .now) (g .soft .now)
+
+abbrev asks1 : tie.Else1 → Asked
+asks1 c = asks (c .before)
+
+abbrev asks2 : tie.Else2 → Asked
+asks2 c = asks1 (c .before)
+
+abbrev asks3 : tie.Else3 → Asked
+asks3 c = asks2 (c .before .before)
+
+abbrev asks4 : tie.Else4 → Asked
+asks4 c = asks3 (c .before .before)
+
+abbrev asks5 : tie.Else5 → Asked
+asks5 c = asks4 (c .before .before)
+
+abbrev asks6 : tie.Else6 → Asked
+asks6 c = asks5 (c .before .before)
+
+-- the answer is that of all but the first k causes
+abbrev Left : ℕ → Asked → Type 0
+Left k a = softAnswer a ≡ outcome (drop k (causes a)) tt
+
+past1 : (c : tie.Else1) → Left 1 (asks1 c)
+past1 c = not-chosen _ _ (ap not (sym (c .before .is-named .ensures)) ∙ c .if1 .left)
+
+past2 : (c : tie.Else2) → Left 2 (asks2 c)
+past2 c = past1 (c .before) ∙ not-chosen _ _ (le-ltb 10240 _ (c .if2 .left))
+
+past3 : (c : tie.Else3) → Left 3 (asks3 c)
+past3 c = past2 (c .before .before) ∙ not-chosen _ _ (ap not (sym (c .before .has-window .ensures)) ∙ c .if3 .left)
+
+past4 : (c : tie.Else4) → Left 4 (asks4 c)
+past4 c = past3 (c .before .before) ∙ not-chosen _ _ (ap not (sym (c .before .sized .ensures)) ∙ c .if4 .left)
+
+past5 : (c : tie.Else5) → Left 5 (asks5 c)
+past5 c = past4 (c .before .before) ∙ not-chosen _ _ (sym (c .before .some-out .ensures) ∙ c .if5 .left)
+
+past6 : (c : tie.Else6) → Left 6 (asks6 c)
+past6 c = past5 (c .before .before) ∙ not-chosen _ _ (sym (c .before .some-count-out .ensures) ∙ c .if6 .left)
+
+-- the lengths are those of one burst
+sizes-right : (c : tie.Else4) → sized (asks4 c) ≡ true
+sizes-right c = sym (c .before .sized .ensures) ∙ not-false _ (c .if4 .left)
 
 is-named-requires : tie.Need-is-named-requires
 is-named-requires c κs = search needs
 
 returns : tie.Need-returns
-returns c =
-    let g = c .before .before .before .before .before .before .before .args in
-    let a = asked (g .mode) (g .kind) (g .symbols) (g .window) (g .bits) (g .terms .now) (g .blanked .now) (g .work .now) (g .metrics .now) (g .soft .now) in
-    stays a 1 (first a (sym (c .before .is-named .ensures) ∙ not-true _ (c .if1 .taken)))
+returns c = stays (asks (c .before)) 1 (chosen _ _ (ap not (sym (c .before .is-named .ensures)) ∙ c .if1 .taken))
 
 returns-2 : tie.Need-returns-2
-returns-2 c =
-    let g = c .before .before .before .before .before .before .before .before .args in
-    let a = asked (g .mode) (g .kind) (g .symbols) (g .window) (g .bits) (g .terms .now) (g .blanked .now) (g .work .now) (g .metrics .now) (g .soft .now) in
-    let one = sym (c .before .before .is-named .ensures) ∙ not-false _ (c .before .if1 .left) in
-    stays a 2 (second a one (lt-ltb 10240 (g .bits) (c .if2 .taken)))
+returns-2 c = stays (asks1 (c .before)) 2 (past1 (c .before) ∙ chosen _ _ (lt-ltb 10240 _ (c .if2 .taken)))
 
 has-window-requires : tie.Need-has-window-requires
 has-window-requires c κs = search needs
 
 returns-3 : tie.Need-returns-3
 returns-3 c =
-    let g = c .before .before .before .before .before .before .before .before .before .before .args in
-    let a = asked (g .mode) (g .kind) (g .symbols) (g .window) (g .bits) (g .terms .now) (g .blanked .now) (g .work .now) (g .metrics .now) (g .soft .now) in
-    let one = sym (c .before .before .before .before .is-named .ensures) ∙ not-false _ (c .before .before .before .if1 .left) in
-    let two = le-ltb 10240 (g .bits) (c .before .before .if2 .left) in
-    stays a 3 (third a one two (sym (c .before .has-window .ensures) ∙ not-true _ (c .if3 .taken)))
+    stays (asks2 (c .before .before)) 3
+    (past2 (c .before .before) ∙ chosen _ _ (ap not (sym (c .before .has-window .ensures)) ∙ c .if3 .taken))
 
 sized-requires : tie.Need-sized-requires
 sized-requires c κs = search needs
 
 returns-4 : tie.Need-returns-4
 returns-4 c =
-    let g = c .before .before .before .before .before .before .before .before .before .before .before .before .args in
-    let a = asked (g .mode) (g .kind) (g .symbols) (g .window) (g .bits) (g .terms .now) (g .blanked .now) (g .work .now) (g .metrics .now) (g .soft .now) in
-    let one = sym (c .before .before .before .before .before .before .is-named .ensures) ∙ not-false _ (c .before .before .before .before .before .if1 .left) in
-    let two = le-ltb 10240 (g .bits) (c .before .before .before .before .if2 .left) in
-    let three = sym (c .before .before .before .has-window .ensures) ∙ not-false _ (c .before .before .if3 .left) in
-    stays a 4 (fourth a one two three (sym (c .before .sized .ensures) ∙ not-true _ (c .if4 .taken)))
+    stays (asks3 (c .before .before)) 4 (past3 (c .before .before) ∙ chosen _ _ (ap not (sym (c .before .sized .ensures)) ∙ c .if4 .taken))
 
 some-out-requires : tie.Need-some-out-requires
 some-out-requires c κs = search needs
 
 returns-5 : tie.Need-returns-5
-returns-5 c =
-    let g = c .before .before .before .before .before .before .before .before .before .before .before .before .before .before .args in
-    let a = asked (g .mode) (g .kind) (g .symbols) (g .window) (g .bits) (g .terms .now) (g .blanked .now) (g .work .now) (g .metrics .now) (g .soft .now) in
-    let one = sym (c .before .before .before .before .before .before .before .before .is-named .ensures)
-    ∙ not-false _ (c .before .before .before .before .before .before .before .if1 .left) in
-    let two = le-ltb 10240 (g .bits) (c .before .before .before .before .before .before .if2 .left) in
-    let three = sym (c .before .before .before .before .before .has-window .ensures) ∙ not-false _ (c .before .before .before .before .if3 .left) in
-    let four = sym (c .before .before .before .sized .ensures) ∙ not-false _ (c .before .before .if4 .left) in
-    stays a 6 (sixth a one two three four (sym (c .before .some-out .ensures) ∙ c .if5 .taken))
+returns-5 c = stays (asks4 (c .before .before)) 6 (past4 (c .before .before) ∙ chosen _ _ (sym (c .before .some-out .ensures) ∙ c .if5 .taken))
 
 some-count-out-requires : tie.Need-some-count-out-requires
 some-count-out-requires c κs = search needs
 
 returns-6 : tie.Need-returns-6
 returns-6 c =
-    let g = c .before .before .before .before .before .before .before .before .before .before .before .before .before .before .before .before .args in
-    let a = asked (g .mode) (g .kind) (g .symbols) (g .window) (g .bits) (g .terms .now) (g .blanked .now) (g .work .now) (g .metrics .now) (g .soft .now) in
-    let one = sym (c .before .before .before .before .before .before .before .before .before .before .is-named .ensures)
-    ∙ not-false _ (c .before .before .before .before .before .before .before .before .before .if1 .left) in
-    let two = le-ltb 10240 (g .bits) (c .before .before .before .before .before .before .before .before .if2 .left) in
-    let three = sym (c .before .before .before .before .before .before .before .has-window .ensures)
-    ∙ not-false _ (c .before .before .before .before .before .before .if3 .left) in
-    let four = sym (c .before .before .before .before .before .sized .ensures) ∙ not-false _ (c .before .before .before .before .if4 .left) in
-    let six = sym (c .before .before .before .some-out .ensures) ∙ c .before .before .if5 .left in
-    stays a 7 (seventh a one two three four six (sym (c .before .some-count-out .ensures) ∙ c .if6 .taken))
+    stays (asks5 (c .before .before)) 7 (past5 (c .before .before) ∙ chosen _ _ (sym (c .before .some-count-out .ensures) ∙ c .if6 .taken))
 
 make-requires : tie.Need-make-requires
 make-requires c κs =
-    let tests = c .before .before .before .before .before .before .before in
-    let g = tests .before .before .before .before .before .before .before .before .before .before .before .before .args in
-    let a = asked (g .mode) (g .kind) (g .symbols) (g .window) (g .bits) (g .terms .now) (g .blanked .now) (g .work .now) (g .metrics .now) (g .soft .now) in
-    let four = sym (tests .before .sized .ensures) ∙ not-false _ (tests .if4 .left) in
-    lent (g .bits) _ _ _ _ _ four (tests .before .before .before .before .if2 .left)
+    let tested = c .before .before .before in
+    let four = tested .before .before .before .before in
+    lent _ _ _ _ _ _ (sizes-right four) (four .before .before .before .before .if2 .left)
 
 same-length : tie.Need-same-length
 same-length c = search needs
@@ -97,20 +117,12 @@ same-length-3 c = search needs
 
 returns-7 : tie.Need-returns-7
 returns-7 c =
-    let tests = c .before .before .before .before .before .before .before .before .before .before in
-    let g = tests .before .before .before .before .before .before .before .before .before .before .before .before .before .before .before .before .args in
-    let a = asked (g .mode) (g .kind) (g .symbols) (g .window) (g .bits) (g .terms .now) (g .blanked .now) (g .work .now) (g .metrics .now) (g .soft .now) in
-    let one = sym (tests .before .before .before .before .before .before .before .before .before .before .is-named .ensures)
-    ∙ not-false _ (tests .before .before .before .before .before .before .before .before .before .if1 .left) in
-    let two = le-ltb 10240 (g .bits) (tests .before .before .before .before .before .before .before .before .if2 .left) in
-    let three = sym (tests .before .before .before .before .before .before .before .has-window .ensures)
-    ∙ not-false _ (tests .before .before .before .before .before .before .if3 .left) in
-    let four = sym (tests .before .before .before .before .before .sized .ensures) ∙ not-false _ (tests .before .before .before .before .if4 .left) in
-    let six = sym (tests .before .before .before .some-out .ensures) ∙ tests .before .before .if5 .left in
-    let seven = sym (tests .before .some-count-out .ensures) ∙ tests .if6 .left in
-    let made = c .before .before .before .before .before .before .make .ensures in
-    done a (length (g .blanked .now)) (length (g .soft .now)) _ _ _ (none a one two three four six seven)
-    (count-is (g .bits) _ _ _ _ _ four) (soft-is (g .bits) _ _ _ _ _ four) (made .0) (made .1)
+    let made = c .before .before .before .before .before .before in
+    let tested = made .before .before .before .before in
+    let a = asks6 tested in
+    let four = sizes-right (tested .before .before .before .before) in
+    done a (length (a .counts)) (length (a .soft)) _ _ _ (past6 tested) (count-is (a .bits) _ _ _ _ _ four) (soft-is (a .bits) _ _ _ _ _ four)
+    (made .make .ensures .0) (made .make .ensures .1)
 
 pub soft-values-spec : {M : Type 1} → statement M
 soft-values-spec = tie.close (tie.spec is-named-requires returns returns-2 has-window-requires returns-3 sized-requires returns-4

@@ -1,0 +1,56 @@
+-- The header read's face to C: a number, and results that are written only where it is 0 (`number` and `place` of util's Refusal).
+use Prim.Native.Nat.{ℕ}
+use mathlib.Core.List.{List}
+use mathlib.Core.Path.{_≡_}
+use lib.Dec.{eqb}
+use lib.Ieee.{Float}
+use Rattle.util.specs.Choose.{choose}
+use Rattle.util.specs.Refusal.{Outcome, number, place}
+use Rattle.ieee.specs.Whole.{plusZero}
+use Rattle.trellis.specs.Answer as Answer
+use Rattle.trellis.specs.Answer.{scoreIn}
+use Rattle.header.specs.Read.{Areas, headerRead, areaAfter}
+
+-- an outcome as numbers: 0 Sure, 1 Kept, 2 Open; the pass of a Sure, else 0
+abbrev pub outcomeNumber : Answer.Outcome Float → ℕ
+outcomeNumber (Answer.Sure x pass) = 0
+outcomeNumber (Answer.Kept x) = 1
+outcomeNumber (Answer.Open x) = 2
+
+abbrev pub passNumber : Answer.Outcome Float → ℕ
+passNumber (Answer.Sure x pass) = pass
+passNumber (Answer.Kept x) = 0
+passNumber (Answer.Open x) = 0
+
+-- the four places lent for its answer
+pub record Lent : Type 0 where
+  pub word : ℕ
+  pub outcome : ℕ
+  pub pass : ℕ
+  pub score : Float
+
+abbrev pub lent : ℕ → ℕ → ℕ → Float → Lent
+lent word outcome pass score = record { word = word; outcome = outcome; pass = pass; score = score }
+
+-- the answer that they hold
+abbrev pub answerAt : Lent → Answer.Answer Float
+answerAt l =
+    record {
+      word = l .word;
+      outcome = choose (eqb (l .outcome) 0) (Answer.Sure (l .score) (l .pass)) (choose (eqb (l .outcome) 1) (Answer.Kept (l .score)) (Answer.Open (l .score)));
+    }
+
+-- by the entry's outcome o: the number, the four places and the four areas at exit
+pub record Faced (o : Outcome (Answer.Answer Float)) (w w′ : Areas) (was new : Lent) (r : ℕ) : Type 0 where
+  pub answer : r ≡ number o
+  pub of-word : new .word ≡ place (λ (a : Answer.Answer Float). a .word) o (was .word)
+  pub of-outcome : new .outcome ≡ place (λ (a : Answer.Answer Float). outcomeNumber (a .outcome)) o (was .outcome)
+  pub of-pass : new .pass ≡ place (λ (a : Answer.Answer Float). passNumber (a .outcome)) o (was .pass)
+  pub of-score : new .score ≡ place (λ (a : Answer.Answer Float). scoreIn (a .outcome)) o (was .score)
+  pub of-scores : w′ .scores ≡ areaAfter o plusZero (w .scores)
+  pub of-next : w′ .next ≡ areaAfter o plusZero (w .next)
+  pub of-start : w′ .start ≡ areaAfter o plusZero (w .start)
+  pub of-decisions : w′ .decisions ≡ areaAfter o 0 (w .decisions)
+
+abbrev pub HeaderFace : ℕ → ℕ → List Float → Areas → Areas → Lent → Lent → ℕ → Type 0
+HeaderFace mode kind terms w w′ was new r = Faced (headerRead mode kind terms w) w w′ was new r

@@ -1,0 +1,73 @@
+// The header read's face to C: the answer in four places, written only where it is not refused, and its number. The entry itself
+// is crate `header`. Definitions in specs/.
+ghost use mathlib.Core.Path.{_≡_};
+ghost use Rattle.trellis.specs.Answer.{scoreIn};
+ghost use Rattle.trellis.specs.Demand.{Claims};
+ghost use Rattle.header.specs.Read.{outcomeIs, areas};
+ghost use Rattle.header_face.specs.Face.{outcomeNumber, passNumber, lent, answerAt, HeaderFace};
+
+// An outcome as numbers.
+struct Numbers {
+    outcome: u8,
+    pass: u8,
+    score: f32,
+}
+
+fn in_numbers(outcome: header::Outcome) -> Numbers
+    ensures { λ r. ⌜ (r .outcome ≡ outcomeNumber (outcomeIs outcome)) × (r .pass ≡ passNumber (outcomeIs outcome))
+        × (r .score ≡ scoreIn (outcomeIs outcome)) ⌝ }
+{
+    match outcome {
+        header::Outcome::Sure(x, pass) => Numbers {
+            outcome: 0,
+            pass,
+            score: x,
+        },
+        header::Outcome::Kept(x) => Numbers {
+            outcome: 1,
+            pass: 0,
+            score: x,
+        },
+        header::Outcome::Open(x) => Numbers {
+            outcome: 2,
+            pass: 0,
+            score: x,
+        },
+    }
+}
+
+// Inside: the entry as C calls it.
+pub fn read(
+    mode: u8,
+    kind: u8,
+    terms: &[f32],
+    scores: &mut [f32],
+    next: &mut [f32],
+    start: &mut [f32],
+    decisions: &mut [u64],
+    word: &mut u64,
+    outcome: &mut u8,
+    pass: &mut u8,
+    score: &mut f32,
+) -> u32
+    ensures face { λ r. ⌜ HeaderFace mode kind (now (terms .entry))
+        (areas (now (scores .entry)) (now (next .entry)) (now (start .entry)) (now (decisions .entry)))
+        (areas (now (scores .exit)) (now (next .exit)) (now (start .exit)) (now (decisions .exit)))
+        (lent (now (word .entry)) (now (outcome .entry)) (now (pass .entry)) (now (score .entry)))
+        (lent (now (word .exit)) (now (outcome .exit)) (now (pass .exit)) (now (score .exit))) r ⌝ }
+    ensures claims { λ r. ⌜ (r ≡ 0 → Claims mode kind (now (terms .entry))
+        (answerAt (lent (now (word .exit)) (now (outcome .exit)) (now (pass .exit)) (now (score .exit))))) ⌝ }
+{
+    match header::read_header(mode, kind, terms, scores, next, start, decisions) {
+        header::HeaderRead::Answer(a) => {
+            let o = a.outcome;
+            let numbers = in_numbers(o);
+            *word = a.word;
+            *outcome = numbers.outcome;
+            *pass = numbers.pass;
+            *score = numbers.score;
+            0
+        }
+        header::HeaderRead::Refused(k) => k as u32,
+    }
+}

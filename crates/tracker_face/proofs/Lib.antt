@@ -1,0 +1,3 @@
+-- Laws for this crate's own proofs.
+mod Lists
+mod Faces
