@@ -14,7 +14,7 @@ use Rattle.trellis.proofs.Paths.{trace-start-cong, trace-word-cong}
 use Rattle.trellis.proofs.Alike.{Follows, Alike, final-alike, decision-alike, end-alike, word-alike, closes-alike, score-alike}
 use Rattle.trellis.proofs.Best.{highest-lt}
 use Rattle.pass.specs.Areas.{table, stepsIn, over, packed, Ran}
-use Rattle.search.specs.Scan.{considered, scanned}
+use Rattle.traceback.specs.Scan.{considered, scanned}
 use Rattle.search.specs.Passed.{Passed}
 use Rattle.pass.proofs.Steps.{highest-same}
 use Rattle.search.specs.declared.Traceback.{Traceback}

@@ -16,11 +16,12 @@ use Rattle.trellis.specs.Trellis.{Trellis}
 use Rattle.trellis.specs.Search.{closing, unclosed, Candidate, begin, closesIn, last, best, candidates, wordIn, settled, search}
 use Rattle.pass.specs.Areas.{table, stepsIn, over, packed}
 use Rattle.search.specs.Lent.{Lent}
-use Rattle.search.specs.Scan.{scanned}
+use Rattle.traceback.specs.Scan.{scanned}
 use Rattle.search.specs.Passed.{Passed}
-use Rattle.search.specs.Found.{bestIs, bestOrLast}
-use Rattle.search.specs.declared.Best.{Best}
-use Rattle.search.specs.declared.Best.the-variants.{Nothing}
+use Rattle.traceback.specs.Best.{bestIs}
+use Rattle.search.specs.Found.{bestOrLast}
+use Rattle.traceback.specs.declared.Best.{Best}
+use Rattle.traceback.specs.declared.Best.the-variants.{Nothing}
 use Rattle.search.specs.declared.Traceback.{Traceback}
 use Rattle.search.proofs.Passes.{passed-same, scanned-same}
 

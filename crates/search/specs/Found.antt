@@ -3,16 +3,9 @@ use Prim.Native.Nat.{ℕ}
 use mathlib.Core.Option.{Option, none, some}
 use lib.Ieee.{Float}
 use Rattle.trellis.specs.Search as Search
-use Rattle.search.specs.declared.Best.{Best}
-use Rattle.search.specs.declared.Best.the-variants.{Nothing, Word}
 use Rattle.search.specs.declared.How.{How}
 use Rattle.search.specs.declared.How.the-variants.{Closing, Candidate, Unclosed}
 use Rattle.search.specs.declared.Found.{Found}
-
--- the best candidate so far
-abbrev pub bestIs : Best → Option (Search.Candidate Float)
-bestIs Nothing = none
-bestIs (Word w g) = some (record { word = w; gain = g })
 
 abbrev pub howIs : How → Search.How
 howIs (Closing pass) = Search.closing pass

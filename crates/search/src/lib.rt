@@ -1,92 +1,18 @@
 // The header's search: a Viterbi search over a tail-biting code, wrapped around at most three times (fec/conv.rs:
-// `traceback`, `decode_tb`). Here are the traceback, the candidates and the passes one after another over lent areas; one
-// pass is crate pass. What it answers is document 01's search, as crate trellis defines it, at f32.
+// `decode_tb`). Here are the passes one after another over lent areas; one pass is crate `pass`, its traceback and its
+// candidates are crate `traceback`. What it answers is document 01's search, as crate trellis defines it, at f32.
 ghost use mathlib.Core.Path.{_≡_};
-ghost use Prim.Native.Nat.{_*_, _<_, _≤_};
+ghost use Prim.Native.Nat.{_*_, _<_};
 ghost use lib.ListN.{length, replicate};
 ghost use lib.Ieee.{sub, binary32};
 ghost use Rattle.ieee.specs.Whole.{plusZero};
-ghost use Rattle.trellis.specs.Numbers.{single};
-ghost use Rattle.trellis.specs.Search.{traceStart, traceWord};
 ghost use Rattle.trellis.specs.Search as Search;
-ghost use Rattle.pass.specs.Areas.{table, stepsIn, over, packed, Holds, Metrics, Ran};
+ghost use Rattle.pass.specs.Areas.{table, stepsIn, over, Holds, Metrics, Ran};
 ghost use Rattle.search.specs.Lent.{Lent};
-ghost use Rattle.search.specs.Scan.{considered, scanned};
 ghost use Rattle.search.specs.Passed.{Passed};
-ghost use Rattle.search.specs.Found.{bestIs, foundIs, bestOrLast};
-
-// What a traceback gives: its word, and the state that it reaches.
-struct Traced {
-    word: u64,
-    start: usize,
-}
-
-// The traceback from state `end` over the survivors. The last bit is met first, so each earlier one goes in below it.
-fn trace(decisions: &[u64], steps: usize, end: usize) -> Traced
-    requires { ⌜ (end < 16384) × (steps ≤ 64) × (length (now decisions) ≡ steps * 256) ⌝ }
-    ensures { λ r. ⌜ (r .word ≡ traceWord 16384 (packed (now (decisions .entry))) steps end)
-        × (r .start ≡ traceStart 16384 (packed (now (decisions .entry))) steps end) × (r .start < 16384) ⌝ }
-{
-    let mut word = 0u64;
-    let mut s = end;
-    let mut j = steps;
-    while 0 < j {
-        j -= 1;
-        word = word * 2 + ((s % 2) as u64);
-        if (decisions[j * 256 + s / 64] >> (s % 64)) % 2 == 1 {
-            s = (s + 16384) / 2;
-        } else {
-            s = s / 2;
-        }
-    }
-    Traced { word, start: s }
-}
-
-// The best candidate of the passes so far, with its word: a later pass overwrites the decisions.
-pub enum Best {
-    Nothing,
-    Word(u64, f32),
-}
-
-// A later candidate needs a strictly greater gain.
-fn beats(best: Best, gain: f32) -> bool
-    ensures { λ r. ⌜ r ≡ Search.beats single (bestIs best) gain ⌝ }
-{
-    match best {
-        Best::Nothing => true,
-        Best::Word(_, g) => gain > g,
-    }
-}
-
-// Takes state s for the best candidate if its gain is strictly greater and its own traceback closes.
-fn consider(decisions: &[u64], steps: usize, best: Best, gain: f32, s: usize) -> Best
-    requires { ⌜ (s < 16384) × (steps ≤ 64) × (length (now decisions) ≡ steps * 256) ⌝ }
-    ensures { λ r. ⌜ bestIs r ≡ considered (packed (now (decisions .entry))) steps (bestIs best) gain s ⌝ }
-{
-    if !beats(best, gain) {
-        return best;
-    }
-    let t = trace(decisions, steps, s);
-    if t.start == s {
-        return Best::Word(t.word, gain);
-    }
-    best
-}
-
-// The candidates of a pass, in state order, after the best of earlier passes.
-fn scan(decisions: &[u64], steps: usize, scores: &[f32], start: &[f32], first: Best) -> Best
-    requires { ⌜ (length (now scores) ≡ 16384) × (length (now start) ≡ 16384) × (steps ≤ 64) × (length (now decisions) ≡ steps * 256) ⌝ }
-    ensures { λ r. ⌜ bestIs r ≡ scanned (packed (now (decisions .entry))) steps (table (now (scores .entry)))
-        (table (now (start .entry))) (bestIs first) 16384 ⌝ }
-{
-    let mut best = first;
-    let mut s = 0usize;
-    while s < 16384 {
-        best = consider(decisions, steps, best, scores[s] - start[s], s);
-        s += 1;
-    }
-    best
-}
+ghost use Rattle.traceback.specs.Best.{bestIs};
+ghost use Rattle.search.specs.Found.{foundIs, bestOrLast};
+use traceback::Best;
 
 // All scores lose the best score, and the next pass starts there.
 fn lower(scores: &mut [f32], top: f32)
@@ -139,7 +65,7 @@ fn found_by(metrics: &[f32], scores: &[f32], start: &[f32], decisions: &[u64]) -
 {
     let end = pass::end_state(scores);
     let top = scores[end];
-    let t = trace(decisions, metrics.len() / 32, end);
+    let t = traceback::trace(decisions, metrics.len() / 32, end);
     let reached = t.start;
     Traceback {
         word: t.word,
@@ -224,7 +150,7 @@ pub fn search(
                 score: t.score,
             };
         }
-        best = scan(decisions, steps, scores, start, best);
+        best = traceback::scan(decisions, steps, scores, start, best);
         if pass == 3 {
             return best_or_last(best, t);
         }

@@ -1,8 +1,8 @@
--- `search::beats` meets its contract, by the cases of the best candidate. Assumes nothing.
+-- `traceback::beats` meets its contract, by the cases of the best candidate. Assumes nothing.
 use borrow.Author.Needs.{needs}
 use Rattle.trellis.specs.Search.{beats}
-use Rattle.search.proofs.beats.Statement.{statement}
-use Rattle.search.proofs.beats.Tie as tie
+use Rattle.traceback.proofs.beats.Statement.{statement}
+use Rattle.traceback.proofs.beats.Tie as tie
 
 enum-told : tie.Need-enum-told
 enum-told c = search needs

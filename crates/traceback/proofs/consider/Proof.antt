@@ -1,16 +1,16 @@
--- `search::consider` meets its contract: each return by the tests that led there. Assumes nothing.
+-- `traceback::consider` meets its contract: each return by the tests that led there. Assumes nothing.
 use mathlib.Core.Bool.{true, false, and-false}
 use mathlib.Core.Path.{_≡_, sym, _∙_}
 use borrow.Author.Needs.{needs}
 use borrow.Author.Tests.{eq-eqb, ne-eqb, not-true, not-false}
 use lib.Dec.{eqb}
 use Rattle.pass.specs.Areas.{packed}
-use Rattle.search.specs.Found.{bestIs}
-use Rattle.search.specs.Scan.{considered}
+use Rattle.traceback.specs.Best.{bestIs}
+use Rattle.traceback.specs.Scan.{considered}
 use Rattle.trellis.specs.Numbers.{single}
 use Rattle.trellis.specs.Search.{traceStart, beats}
-use Rattle.search.proofs.consider.Statement.{statement}
-use Rattle.search.proofs.consider.Tie as tie
+use Rattle.traceback.proofs.consider.Statement.{statement}
+use Rattle.traceback.proofs.consider.Tie as tie
 
 beats-requires : tie.Need-beats-requires
 beats-requires c κs = search needs

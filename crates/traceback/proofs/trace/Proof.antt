@@ -1,4 +1,4 @@
--- `search::trace` meets its contract. The invariant: what is left to trace, below the word so far, makes up the whole (`Tracing`).
+-- `traceback::trace` meets its contract. The invariant: what is left to trace, below the word so far, makes up the whole (`Tracing`).
 -- The measure is the steps left. Assumes nothing.
 use Prim.Native.Nat.{_+_, _*_, _-_, _^_, _≤_, _<_}
 use mathlib.Core.Bool.{true, false}
@@ -7,10 +7,10 @@ use native.Mathlib.Omega.{arith}
 use borrow.Author.Needs.{needs}
 use borrow.Author.Tests.{eq-eqb, ne-eqb}
 use Rattle.pass.proofs.Bits.{room, longer, none}
-use Rattle.search.proofs.Tracing.{Tracing, tracing-start, tracing-more, tracing-done}
+use Rattle.traceback.proofs.Tracing.{Tracing, tracing-start, tracing-more, tracing-done}
 use Rattle.pass.specs.Areas.{packed}
-use Rattle.search.proofs.trace.Statement.{statement}
-use Rattle.search.proofs.trace.Tie as tie
+use Rattle.traceback.proofs.trace.Statement.{statement}
+use Rattle.traceback.proofs.trace.Tie as tie
 
 abbrev Inv-loop : tie.InvT-loop
 Inv-loop decisions steps end word₀ s₀ j₀ word s j =

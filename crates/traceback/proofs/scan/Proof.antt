@@ -1,4 +1,4 @@
--- `search::scan` meets its contract. The invariant: the states passed are considered. The measure is what is left of them.
+-- `traceback::scan` meets its contract. The invariant: the states passed are considered. The measure is what is left of them.
 -- Assumes nothing.
 use Prim.Native.Nat.{_-_, _≤_}
 use mathlib.Core.Option.{Option}
@@ -8,11 +8,11 @@ use native.Mathlib.Omega.{arith}
 use borrow.Author.Needs.{needs}
 use lib.Ieee.{Float, sub, binary32}
 use Rattle.pass.specs.Areas.{table, packed}
-use Rattle.search.specs.Found.{bestIs}
-use Rattle.search.specs.Scan.{considered, scanned}
+use Rattle.traceback.specs.Best.{bestIs}
+use Rattle.traceback.specs.Scan.{considered, scanned}
 use Rattle.trellis.specs.Search.{Candidate}
-use Rattle.search.proofs.scan.Statement.{statement}
-use Rattle.search.proofs.scan.Tie as tie
+use Rattle.traceback.proofs.scan.Statement.{statement}
+use Rattle.traceback.proofs.scan.Tie as tie
 
 abbrev Inv-loop : tie.InvT-loop
 Inv-loop decisions steps scores start best₀ s₀ best s =
