@@ -1,8 +1,9 @@
-/* The receiving core of the ion HF modem, proved: the functions of the static library libion.a (`rt staticlib ion`).
+/* The receiving core of the ion HF modem and the sending halves of its interleavers, proved: the functions of the static library
+ * libion.a (`rt staticlib ion`).
  *
  * Every function takes any numbers and any buffers of the lengths that are told, and ends. It returns 0, or the number of the
- * refusal; of several causes the lowest number (ion_refusal has a text for each). Results and lent buffers are written only where
- * 0 is returned.
+ * refusal (ion_refusal has a text for each); of several causes the one that comes first in the order 1, 2, 3, 4, 5, 11, 6, 7, 8, 9, 10.
+ * Results and lent buffers are written only where 0 is returned.
  *
  * Buffers: a pointer must be valid for its length and aligned as its type asks; with length 0 it may be NULL. Lent buffers must
  * overlap neither each other nor an input. Nothing is kept between calls, so any threads may call at once over buffers of their own.
@@ -24,10 +25,10 @@ extern "C" {
 
 /* The number of the last change request that is in; 0 is the base. Answer, outcome and tracker will grow. The library has the number
  * in a symbol's name, which every file that includes this header asks for: a library of another version does not link. */
-#define ION_VERSION 0
-uint32_t ion_version_0(void);
+#define ION_VERSION 101
+uint32_t ion_version_101(void);
 #if defined(__GNUC__)
-__attribute__((used)) static uint32_t (*const ion_version)(void) = ion_version_0;
+__attribute__((used)) static uint32_t (*const ion_version)(void) = ion_version_101;
 #endif
 
 /* modes, kinds, the form of data, what was heard of a symbol, outcomes of a header read */
@@ -37,18 +38,21 @@ enum { ION_BIT_FORM = 0, ION_SYMBOL_FORM = 1 };
 enum { ION_MISSED = 0, ION_HEARD = 1 };
 enum { ION_SURE = 0, ION_KEPT = 1, ION_OPEN = 2 };
 
-/* sizes: header symbols (n below, and as many header bits) by kind, terms and values of a symbol, places of a score area, words of
- * decisions for each header symbol, the most data bits, CRC bits, calls of a tracker (and shifts), blocks */
+/* sizes: header symbols (n below, and as many header bits) by kind, data symbols of so many bits and their slots, terms and values of a
+ * symbol, places of a score area, words of decisions for each header symbol, the most data bits, data symbols, CRC bits, calls of a
+ * tracker (and shifts), blocks */
 #define ION_HEADER_SYMBOLS(kind) ((kind) == ION_DATA ? 64 : 48)
+#define ION_DATA_SYMBOLS(bits) (((size_t)(bits) + 4) / 5)
+#define ION_SLOTS(bits) (5 * ION_DATA_SYMBOLS(bits))
 enum { ION_TERMS = 260, ION_VALUES = 32, ION_STATES = 16384, ION_DECISIONS = 256 };
-enum { ION_MOST_BITS = 10240, ION_MOST_CRC_BITS = 1024, ION_MOST_CALLS = 2048, ION_MOST_BLOCKS = 64 };
+enum { ION_MOST_BITS = 10240, ION_MOST_SYMBOLS = 2048, ION_MOST_CRC_BITS = 1024, ION_MOST_CALLS = 2048, ION_MOST_BLOCKS = 64 };
 
 /* What a number says; of 0 that it is no refusal. */
 static inline const char *ion_refusal(uint32_t number) {
     static const char *const text[] = {
         "done",
         "mode or kind not named",
-        "more than 10,240 bits, or a multiplier's length above that",
+        "more than 10,240 bits or 2,048 symbols, or a multiplier's length above 10,240",
         "a window that the mode does not have",
         "a buffer has another length than stated, or a CRC has over 1,024 bits",
         "a bit byte above 1",
@@ -57,6 +61,7 @@ static inline const char *ion_refusal(uint32_t number) {
         "early, late or noise not in 0 to 10^9",
         "2,048 symbols were tracked already, or the tracker's rule is broken",
         "over 64 blocks, or a block out of range or falling",
+        "a symbol value above 31",
     };
     return number < sizeof text / sizeof *text ? text[number] : "no number of this library";
 }
@@ -72,6 +77,21 @@ uint32_t ion_crc(uint8_t mode, uint8_t kind, const uint8_t *bits, size_t bits_le
 /* The symbol values of a header, slot by slot: n bits in, n values out.
  * Refused: 1, 4 (a length is not n), 5 (a byte above 1). */
 uint32_t ion_header_values(uint8_t mode, uint8_t kind, const uint8_t *bits, size_t bits_len, uint8_t *values, size_t values_len);
+
+/* Sends data bits, a byte each: n = ION_SLOTS(bits_len) slots out, of which slot (a*p) mod n holds bit p with its scramble bit added
+ * modulo 2, a being the multiplier for n. Slots that no bit reaches (n - bits_len of them, at most 4) hold 0, whatever was lent. Five
+ * slots are a tone: slot 5*i + k is bit k, from the lowest, of the Gray code of the value of data symbol i.
+ * Proved of every call that is answered, of any length to 10,240: slots read as soft bits of +1 for 0 and -1 for 1, put back in order
+ * and unscrambled (what the bit form of ion_soft_values does with its own soft bits), give +1 for every bit 0 and -1 for every bit 1.
+ * Refused: 2 (over 10,240 bits), 4 (slots_len is not n), 5 (a byte above 1). */
+uint32_t ion_interleave(const uint8_t *bits, size_t bits_len, uint8_t *slots, size_t slots_len);
+
+/* Sends code symbols, a byte of 0 to 31 each: as many values out, of which slot (a*p) mod n holds symbol p, changed by its five-bit
+ * scramble. A slot's value is the value of its data symbol's tone.
+ * Proved of every call that is answered, of any length to 2,048: whatever the slots' metrics are, put back in order and unscrambled (as
+ * the symbol form of ion_soft_values does) a slot's metric for its sent value is its symbol's metric for the symbol's own value.
+ * Refused: 2 (over 2,048 symbols), 4 (values_len is not symbols_len), 11 (a value above 31). */
+uint32_t ion_interleave_sym(const uint8_t *symbols, size_t symbols_len, uint8_t *values, size_t values_len);
 
 /* Reads a header. terms: n*260 floats. Work areas, zeros after an answer: scores, next and start of 16,384 floats, decisions of n*256
  * words. word: header bit j at place j from the lowest, zeros above the last. outcome: ION_SURE, ION_KEPT or ION_OPEN. pass: 1 to 3 for

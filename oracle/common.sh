@@ -23,8 +23,9 @@ older() {
     [ -n "$(find "$@" -newer "$target" -print 2>/dev/null | head -n 1)" ]
 }
 
-# NAME: a static library of ours, with the proof's own words only where it fails
+# NAME: a static library of ours, where anything of the crates is newer, with the proof's own words only where it fails
 our_library() {
+    older "$root/target/staticlib/lib$1.a" "$root/crates" "$root/crates.txt" || return 0
     mkdir -p "$root/target"
     (cd "$root" && rt staticlib "$1") >"$root/target/staticlib-$1.log" 2>&1 || { cat "$root/target/staticlib-$1.log" >&2; exit 1; }
 }

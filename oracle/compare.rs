@@ -5,6 +5,7 @@ mod drift;
 mod face;
 mod inputs;
 mod read;
+mod sending;
 mod sent;
 mod soft;
 
@@ -99,7 +100,7 @@ fn crcs(wrong: &mut bool) {
     s.end(wrong);
 }
 
-/// Bad input: the lowest number that the table gives, worked out here from the table.
+/// Bad input: the first number that the papers' order gives, worked out here from their table.
 fn crc_refusals(wrong: &mut bool) {
     let mut s = Section::new("CRC, refusals 1, 4, 5");
     for mode in 0..=4u8 {
@@ -198,6 +199,7 @@ fn main() {
     air_order(&mut wrong);
     numbers(&mut wrong);
     sent::all(&mut wrong);
+    sending::all(&mut wrong);
     soft::all(&mut wrong);
     let headers = std::env::args().nth(1).map_or(2_400, |n| n.parse().expect("how many headers of each style"));
     read::all(&mut wrong, headers);

@@ -4,6 +4,8 @@ unsafe extern "C" {
     fn ion_interleave_mult(n: u64, mult: *mut u64) -> u32;
     fn ion_crc(mode: u8, kind: u8, bits: *const u8, bits_len: usize, crc: *mut u16) -> u32;
     fn ion_header_values(mode: u8, kind: u8, bits: *const u8, bits_len: usize, values: *mut u8, values_len: usize) -> u32;
+    fn ion_interleave(bits: *const u8, bits_len: usize, slots: *mut u8, slots_len: usize) -> u32;
+    fn ion_interleave_sym(symbols: *const u8, symbols_len: usize, values: *mut u8, values_len: usize) -> u32;
     fn ion_read_header(
         mode: u8, kind: u8, terms: *const f32, terms_len: usize, scores: *mut f32, scores_len: usize, next: *mut f32, next_len: usize, start: *mut f32,
         start_len: usize, decisions: *mut u64, decisions_len: usize, word: *mut u64, outcome: *mut u8, pass: *mut u8, score: *mut f32,
@@ -29,6 +31,14 @@ pub fn crc(mode: u8, kind: u8, bits: &[u8], crc: &mut u16) -> u32 {
 
 pub fn header_values(mode: u8, kind: u8, bits: &[u8], values: &mut [u8]) -> u32 {
     unsafe { ion_header_values(mode, kind, bits.as_ptr(), bits.len(), values.as_mut_ptr(), values.len()) }
+}
+
+pub fn interleave(bits: &[u8], slots: &mut [u8]) -> u32 {
+    unsafe { ion_interleave(bits.as_ptr(), bits.len(), slots.as_mut_ptr(), slots.len()) }
+}
+
+pub fn interleave_sym(symbols: &[u8], values: &mut [u8]) -> u32 {
+    unsafe { ion_interleave_sym(symbols.as_ptr(), symbols.len(), values.as_mut_ptr(), values.len()) }
 }
 
 /// What is lent to a header read: three areas of scores and one of decisions, and the places of the answer.

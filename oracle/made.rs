@@ -1,5 +1,5 @@
-// Bursts made for the port: a header and data are sent by the Rust's own sending half, go through a channel at 8,000 complex samples a second,
-// and are heard as energies of 52 places, which the Rust's own model turns into terms. docs/BURST-FORMAT.md has the file's layout.
+// Bursts made for the port: a header and data are sent, by the Rust's own sending half or by ours, go through a channel at 8,000 complex
+// samples a second, and are heard as energies of 52 places, which the Rust's own model turns into terms. docs/BURST-FORMAT.md has the layout.
 #![allow(dead_code)]
 use crate::inputs::Dice;
 use ion::phy_mfsk::hook::{Fmt, Kind, MfskMode, Terms, air, fitted_terms, preamble_places, prior_terms, windows};
@@ -162,17 +162,45 @@ fn flat(terms: &[Terms]) -> Vec<f32> {
     terms.iter().flatten().flatten().copied().collect()
 }
 
-fn data_values(mode: MfskMode, symbols: bool, bits: &[u8]) -> Vec<[u16; 3]> {
-    if !symbols {
-        return air::data_values(mode, bits);
+/// Who sends: the tones' values of a header's bits and of the data, by mode, kind and form.
+pub struct Sender {
+    pub header: fn(u8, u8, &[u8]) -> Vec<u8>,
+    pub bits: fn(u8, &[u8]) -> Vec<u8>,
+    pub symbols: fn(u8, &[u8]) -> Vec<u8>,
+}
+
+fn tones(values: Vec<[u16; 3]>) -> Vec<u8> {
+    values.iter().map(|v| v[0] as u8).collect()
+}
+
+/// The Rust's own functions: what the comparisons send by.
+pub const RUST: Sender = Sender {
+    header: |mode, kind, bits| tones(air::header_values(MODES[mode as usize], KINDS[kind as usize], bits)),
+    bits: |mode, bits| tones(air::data_values(MODES[mode as usize], bits)),
+    symbols: |mode, symbols| tones(air::data_values_sym(MODES[mode as usize], symbols)),
+};
+
+impl Sender {
+    fn data(&self, mode: u8, symbols: bool, bits: &[u8]) -> Vec<u8> {
+        if bits.is_empty() {
+            return Vec::new();
+        }
+        if !symbols {
+            return (self.bits)(mode, bits);
+        }
+        // five bits a code symbol, the first one highest
+        let code: Vec<u8> = bits.chunks(5).map(|c| (0..5).fold(0, |v, k| v << 1 | c.get(k).copied().unwrap_or(0))).collect();
+        (self.symbols)(mode, &code)
     }
-    // five bits a code symbol, the first one highest
-    let code: Vec<u8> = bits.chunks(5).map(|c| (0..5).fold(0, |v, k| v << 1 | c.get(k).copied().unwrap_or(0))).collect();
-    air::data_values_sym(mode, &code)
+}
+
+/// The burst of a seed, sent by the Rust.
+pub fn made(seed: u64, how: &How) -> Burst {
+    made_by(&RUST, seed, how)
 }
 
 /// The burst of a seed.
-pub fn made(seed: u64, how: &How) -> Burst {
+pub fn made_by(sender: &Sender, seed: u64, how: &How) -> Burst {
     let mut d = Dice(air::mix64(seed ^ 0x4255_5253_5400));
     let (mode, kind) = (MODES[how.mode as usize], KINDS[how.kind as usize]);
     let fmt = Fmt::of(mode);
@@ -183,14 +211,14 @@ pub fn made(seed: u64, how: &How) -> Burst {
     let field = how.bits as usize | if how.symbols { air::SYM_FLAG } else { 0 };
     let info = air::header_bits(1, mode, kind, user, extra, field);
     let sent: Vec<u8> = (0..how.bits).map(|_| (d.word() >> 63) as u8).collect();
-    let header = air::header_values(mode, kind, &info);
-    let data = if how.bits == 0 { Vec::new() } else { data_values(mode, how.symbols, &sent) };
+    let header = (sender.header)(how.mode, how.kind, &info);
+    let data = sender.data(how.mode, how.symbols, &sent);
     // on the air: the preamble on R0's grid, then header and data on the mode's
     let first = Fmt::of(MfskMode::R0);
     let places = preamble_places();
     let mut tones: Vec<(f64, usize)> = places.iter().map(|&e| (first.bin_hz(e as i32 - BESIDE) as f64, first.sym)).collect();
-    for (i, v) in header.iter().chain(&data).enumerate() {
-        tones.push((fmt.bin_hz(fmt.tone_bin(fmt.hop(i), 0, v[0] as usize) as i32) as f64, fmt.sym));
+    for (i, &v) in header.iter().chain(&data).enumerate() {
+        tones.push((fmt.bin_hz(fmt.tone_bin(fmt.hop(i), 0, v as usize) as i32) as f64, fmt.sym));
     }
     let mut z = through(&sent_samples(&tones), fmt, how, &mut d);
     let begin = first.sym * places.len();

@@ -1,15 +1,38 @@
-// Writes one burst file (docs/BURST-FORMAT.md) to standard output, and what was sent to standard error.
+// Writes one burst file (docs/BURST-FORMAT.md) to standard output, and what was sent to standard error. Header and data are sent by the
+// entries of libion.a, or by the Rust's functions.
+#[allow(dead_code)] // only what sends
+mod face;
 mod inputs;
 mod made;
 use ion::phy_mfsk::hook::{air, windows};
-use made::{How, KINDS, MODES, made, write};
+use made::{How, KINDS, MODES, RUST, Sender, made_by, write};
 use std::io::Write;
 
+/// The list of so many places that an entry fills.
+fn filled(places: usize, entry: impl FnOnce(&mut [u8]) -> u32) -> Vec<u8> {
+    let mut list = vec![0; places];
+    match entry(&mut list) {
+        0 => list,
+        k => panic!("what is to be sent was refused by {k}"),
+    }
+}
+
+/// The proved entries. A tone carries five slots, the first one lowest, in Gray code.
+const OURS: Sender = Sender {
+    header: |mode, kind, bits| filled(bits.len(), |values| face::header_values(mode, kind, bits, values)),
+    bits: |_, bits| {
+        let slots = filled(5 * bits.len().div_ceil(5), |slots| face::interleave(bits, slots));
+        slots.chunks(5).map(|c| air::gray_inv(c.iter().rev().fold(0, |v, &b| v << 1 | b as usize)) as u8).collect()
+    },
+    symbols: |_, symbols| filled(symbols.len(), |values| face::interleave_sym(symbols, values)),
+};
+
 const USE: &str = "make_burst [--seed N] [--mode 0|1] [--kind 0|1|2] [--form 0|1] [--window N] [--bits N]
-           [--snr DB] [--doppler HZ] [--delay MS] [--carrier DB] [--blanked SHARE] [--damage WHAT]
+           [--snr DB] [--doppler HZ] [--delay MS] [--carrier DB] [--blanked SHARE] [--damage WHAT] [--sender ours|rust]
 mode 0 R0, 1 R1; kind 0 HeaderOnly, 1 Data, 2 Cue; form 0 bits, 1 symbols; window one of the mode's three;
 snr over noise in 3,000 Hz; doppler 0: one steady path; carrier: on one bin, dB over the signal; blanked: 0 to 1;
-damage: nan, large, cut, long, magic, version, mode, kind, form, zeros, window, bits, count";
+damage: nan, large, cut, long, magic, version, mode, kind, form, zeros, window, bits, count;
+sender: ours (the proved library) or the Rust's functions; they differ in slots that no data bit reaches (docs/DIFFERENCES.md)";
 
 fn stop(why: &str) -> ! {
     eprintln!("make_burst: {why}\n{USE}");
@@ -20,8 +43,8 @@ fn number<T: std::str::FromStr>(name: &str, text: Option<String>) -> T {
     text.and_then(|t| t.parse().ok()).unwrap_or_else(|| stop(&format!("{name} needs a number")))
 }
 
-fn asked() -> (u64, How, Option<String>) {
-    let (mut seed, mut how, mut damage) = (1, How::default(), None);
+fn asked() -> (u64, How, Option<String>, Sender) {
+    let (mut seed, mut how, mut damage, mut sender) = (1, How::default(), None, OURS);
     let mut args = std::env::args().skip(1);
     while let Some(name) = args.next() {
         let mut next = || args.next();
@@ -38,6 +61,13 @@ fn asked() -> (u64, How, Option<String>) {
             "--carrier" => how.carrier = Some(number(&name, next())),
             "--blanked" => how.blanked = number(&name, next()),
             "--damage" => damage = next(),
+            "--sender" => {
+                sender = match next().as_deref() {
+                    Some("ours") => OURS,
+                    Some("rust") => RUST,
+                    _ => stop("--sender needs 'ours' or 'rust'"),
+                }
+            }
             "--options" | "--help" | "-h" => {
                 println!("{USE}");
                 std::process::exit(0)
@@ -62,12 +92,12 @@ fn asked() -> (u64, How, Option<String>) {
     if how.window != 0 && !windows(MODES[how.mode as usize]).contains(&(how.window as usize)) {
         stop("the window is not one of the mode's");
     }
-    (seed, how, damage)
+    (seed, how, damage, sender)
 }
 
 fn main() {
-    let (seed, how, damage) = asked();
-    let b = made(seed, &how);
+    let (seed, how, damage, sender) = asked();
+    let b = made_by(&sender, seed, &how);
     let n = air::header_info_bits(KINDS[how.kind as usize]);
     eprintln!("sent: header {:0w$x}, {n} bits with a good CRC; {} data bits in {} symbols, window {}", b.word, b.bits, b.blanked.len(), b.window, w = n / 4);
     if b.bits > 0 {

@@ -95,7 +95,7 @@ fn named(wrong: &mut bool) {
     s.end(wrong);
 }
 
-/// The lowest number that the table gives, worked out here from the table; a refusal leaves every bit of every area.
+/// The first number that the papers' order gives, worked out here from their table; a refusal leaves every bit of every area.
 fn refused(s: &mut Section, mode: u8, kind: u8, terms: &[f32], lengths: [usize; 4]) {
     let n = if kind == 1 { 64 } else { 48 };
     let want = if mode > 1 || kind > 2 {

@@ -28,6 +28,37 @@ fn burst(mode: MfskMode, kind: Kind, symbols: bool, window: usize, bits: usize, 
 /// What a refusal's number is added to.
 const REFUSED: u64 = 1 << 32;
 
+/// The slots of bits by document 02's words; where no slot is left out, by the Rust as well.
+fn slots(bits: &[u8]) -> Vec<u8> {
+    let n = 5 * bits.len().div_ceil(5);
+    let (a, mut slots) = (air::interleave_mult(n), vec![0; n]);
+    bits.iter().enumerate().for_each(|(p, b)| slots[a * p % n] = (b + air::scramble(p)) % 2);
+    if bits.len() == n && n > 0 {
+        let tones = air::data_values(MfskMode::R0, bits);
+        slots = (0..n).map(|s| (air::gray(tones[s / 5][0] as usize) >> (s % 5) & 1) as u8).collect();
+    }
+    slots
+}
+
+/// The digest that crates/vectors makes of data sent, bits or symbols worked out from a seed, or the refusal of a list too long, of `extra` places too
+/// many, or of a first one that is none.
+fn sending(symbols: bool, asked: u64) -> u64 {
+    let (seed, n, extra, first) = (asked % REFUSED, (asked >> 32) % 65536, (asked >> 48) % 256, (asked >> 56) as u8);
+    let (below, most, number) = if symbols { (32, 2_048, 11) } else { (2, 10_240, 5) };
+    let mut list: Vec<u8> = (0..n).map(|i| (air::mix64(seed ^ i << 32) % below) as u8).collect();
+    if first > 0 {
+        list[0] = first;
+    }
+    let sent: Vec<u8> = match () {
+        _ if n > most => return REFUSED + 2,
+        _ if extra > 0 => return REFUSED + 4,
+        _ if list.iter().any(|&x| x as u64 >= below) => return REFUSED + number,
+        _ if symbols && n > 0 => air::data_values_sym(MfskMode::R0, &list).iter().map(|v| v[0] as u8).collect(),
+        _ => slots(&list),
+    };
+    sent.iter().fold(seed, |h, &x| air::mix64(h ^ x as u64))
+}
+
 fn drawn(seed: u64, i: usize) -> u64 {
     air::mix64(seed ^ (i as u64) << 32)
 }
@@ -143,6 +174,19 @@ fn vectors(put: Put) {
                 }
             }
         }
+    }
+    // how many, places too many, the first one instead
+    let bits = [0, 1, 2, 3, 4, 5, 6, 7, 8, 9, 10, 31, 64, 100, 320, 1000, 10_235, 10_238, 10_240].map(|n| (n, 0, 0));
+    let refused = [(10_241, 0, 0), (10_241, 1, 2), (5, 1, 0), (5, 1, 2), (5, 0, 2), (5, 0, 255)];
+    for (i, (n, extra, first)) in bits.into_iter().chain(refused).enumerate() {
+        let asked = 5000 + i as u64 | n << 32 | extra << 48 | first << 56;
+        put(12, asked, sending(false, asked));
+    }
+    let symbols = [0, 1, 2, 3, 4, 5, 31, 32, 64, 100, 320, 1000, 2_047, 2_048].map(|n| (n, 0, 0));
+    let refused = [(2_049, 0, 0), (2_049, 1, 32), (5, 1, 0), (5, 1, 32), (5, 0, 32), (5, 0, 255), (5, 0, 31)];
+    for (i, (n, extra, first)) in symbols.into_iter().chain(refused).enumerate() {
+        let asked = 6000 + i as u64 | n << 32 | extra << 48 | first << 56;
+        put(13, asked, sending(true, asked));
     }
     for p in (0..256).chain([2047, 2048, 10_239]) {
         put(4, p, air::scramble(p as usize) as u64);

@@ -63,7 +63,7 @@ fn headers(wrong: &mut bool) {
     s.end(wrong);
 }
 
-/// The lowest number that the table gives, worked out here from the table; a refusal leaves every byte.
+/// The first number that the papers' order gives, worked out here from their table; a refusal leaves every byte.
 fn refused(s: &mut Section, mode: u8, kind: u8, bits: &[u8], room: usize) {
     let n = if kind == 1 { 64 } else { 48 };
     let want = if mode > 1 || kind > 2 {

@@ -110,7 +110,7 @@ fn bursts(wrong: &mut bool) {
     println!("  {floats} metrics and soft bits compared bit for bit");
 }
 
-/// The table, worked out here: of several causes the lowest number.
+/// The papers' table, worked out here: of several causes the first in their order.
 fn table(b: &Lent) -> u64 {
     let n = (b.bits as u64).div_ceil(5) as usize;
     if b.mode > 1 || b.kind > 2 {

@@ -33,6 +33,8 @@ impl Bits for f64 {
 }
 
 pub const KINDS: usize = 8;
+/// Every refusal's number is below this.
+pub const NUMBERS: usize = 12;
 
 #[derive(Default)]
 pub struct Check {
@@ -48,7 +50,7 @@ pub struct Check {
     pub bad: Option<String>,
     /// Calls that were answered, by kind, and that were refused, by number: what the Rust or the table says.
     pub answers: [u64; KINDS],
-    pub refused: [u64; 11],
+    pub refused: [u64; NUMBERS],
     /// Headers out in the first pass against a search in f64.
     pub rivals: Rivals,
 }

@@ -18,7 +18,7 @@ fn lent(d: &mut Dice, lengths: [usize; 4]) -> Header {
     Header { scores, decisions: (0..lengths[3]).map(|_| d.word()).collect(), word: d.word(), outcome: 0xA5, pass: 0x5A, score: f32::from_bits(0x7f80_0001) }
 }
 
-/// Of several causes the lowest number.
+/// Of several causes the first in the papers' order.
 fn table(mode: u8, kind: u8, terms: &[f32], lengths: [usize; 4]) -> u32 {
     let n = header_bits(kind);
     match () {

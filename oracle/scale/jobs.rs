@@ -1,5 +1,5 @@
 // A job is one entry with one source of inputs, drawn by their index: the same seed, job and index give the same input whatever the threads.
-use crate::check::{Check, KINDS};
+use crate::check::{Check, KINDS, NUMBERS};
 use crate::inputs::Dice;
 use crate::rivals::Rivals;
 use ion::fec::conv::ConvCode;
@@ -52,7 +52,7 @@ impl Job {
 pub struct Tally {
     pub inputs: u64,
     pub answers: [u64; KINDS],
-    pub refused: [u64; 11],
+    pub refused: [u64; NUMBERS],
     pub numbers: u64,
     /// Bits turned on our side.
     pub turned: u64,
@@ -66,7 +66,7 @@ impl Tally {
     fn add(&mut self, index: u64, c: Check) {
         self.inputs += 1;
         (0..KINDS).for_each(|k| self.answers[k] += c.answers[k]);
-        (0..11).for_each(|k| self.refused[k] += c.refused[k]);
+        (0..NUMBERS).for_each(|k| self.refused[k] += c.refused[k]);
         self.numbers += c.numbers;
         self.turned += c.turned as u64;
         self.rivals.join(&c.rivals);
@@ -80,7 +80,7 @@ impl Tally {
     pub fn join(&mut self, o: Tally) {
         self.inputs += o.inputs;
         (0..KINDS).for_each(|k| self.answers[k] += o.answers[k]);
-        (0..11).for_each(|k| self.refused[k] += o.refused[k]);
+        (0..NUMBERS).for_each(|k| self.refused[k] += o.refused[k]);
         self.numbers += o.numbers;
         self.turned += o.turned;
         self.differ += o.differ;

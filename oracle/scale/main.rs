@@ -1,4 +1,4 @@
-// Runs all seven entries side by side at scale: ours through the C functions of libion.a, the Rust's through the hook.
+// Runs all nine entries side by side at scale: ours through the C functions of libion.a, the Rust's through the hook.
 // Built and run by scale.sh, whose head says what can be asked.
 #[path = "../face.rs"]
 mod face;
@@ -12,6 +12,7 @@ mod headers;
 mod jobs;
 mod replay;
 mod rivals;
+mod sending;
 mod small;
 mod soft;
 mod table;
@@ -102,7 +103,7 @@ fn main() {
     if let Some(folder) = &a.replay {
         exit(replay::all(&o, folder, a.plant.map(|p| (p.1, p.2))));
     }
-    let mut jobs: Vec<Job> = small::jobs().into_iter().chain(tracker::jobs()).chain(soft::jobs()).chain(headers::jobs()).collect();
+    let mut jobs: Vec<Job> = small::jobs().into_iter().chain(sending::jobs()).chain(tracker::jobs()).chain(soft::jobs()).chain(headers::jobs()).collect();
     let names: Vec<String> = jobs.iter().map(|j| j.name()).collect();
     for name in a.only.iter().chain(a.plant.iter().map(|p| &p.0)) {
         if !names.contains(name) {
@@ -144,7 +145,7 @@ fn main() {
         if told < t.inputs || (job.entry != "tracker" && told != t.inputs && t.differ == 0) {
             wrong.push(format!("{}: {told} calls of {} inputs are told", job.name(), t.inputs));
         }
-        if let Some(k) = (0..11).find(|&k| t.refused[k] > 0 && !job.numbers.contains(&(k as u32))) {
+        if let Some(k) = (0..check::NUMBERS).find(|&k| t.refused[k] > 0 && !job.numbers.contains(&(k as u32))) {
             wrong.push(format!("{}: {k} is no refusal of it", job.name()));
         }
         if a.share >= 100.0 {

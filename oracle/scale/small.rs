@@ -36,7 +36,7 @@ fn multiplier_any(_: &Oracle, d: &mut Dice, _: u64, c: &mut Check) {
     multiplier(c, n)
 }
 
-/// Of several causes the lowest number.
+/// Of several causes the first in the papers' order.
 fn crc_table(mode: u8, kind: u8, bits: &[u8]) -> u32 {
     match () {
         _ if mode > 1 || kind > 2 => 1,
@@ -61,7 +61,7 @@ fn crc(c: &mut Check, mode: u8, kind: u8, bits: &mut [u8]) {
     c.input(|| format!("mode {mode} kind {kind} bits {before:?}"));
 }
 
-fn random_bits(d: &mut Dice, n: usize) -> Vec<u8> {
+pub fn random_bits(d: &mut Dice, n: usize) -> Vec<u8> {
     let (mut word, style) = (0, d.below(8));
     (0..n)
         .map(|i| {

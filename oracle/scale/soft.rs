@@ -19,7 +19,7 @@ pub fn lent(d: &mut Dice, mode: u8, kind: u8, symbols: u8, window: u32, bits: u3
     Soft { mode, kind, symbols, window, bits, terms: vec![0.0; 260 * n], blanked: vec![0; n], work, metrics, soft }
 }
 
-/// Of several causes the lowest number.
+/// Of several causes the first in the papers' order.
 fn table(b: &Soft) -> u32 {
     let n = (b.bits as u64).div_ceil(5) as usize;
     match () {

@@ -1,4 +1,5 @@
 // The table on standard output: a line for each entry, and below it one for each source of inputs.
+use crate::check::NUMBERS;
 use crate::jobs::{Job, Tally};
 
 /// With a comma at every third place.
@@ -19,7 +20,7 @@ pub fn kinds(names: &[&str], t: &Tally) -> String {
 }
 
 pub fn numbers(t: &Tally) -> String {
-    let parts: Vec<String> = (0..11).filter(|&k| t.refused[k] > 0).map(|k| format!("{k}: {}", commas(t.refused[k]))).collect();
+    let parts: Vec<String> = (0..NUMBERS).filter(|&k| t.refused[k] > 0).map(|k| format!("{k}: {}", commas(t.refused[k]))).collect();
     if parts.is_empty() { "-".into() } else { parts.join(", ") }
 }
 

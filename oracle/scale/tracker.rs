@@ -129,7 +129,7 @@ fn rule_broken(m: usize, t: &Tracker) -> bool {
         || t.shifts[..t.n].iter().any(|z| z.unsigned_abs() > 2_048)
 }
 
-/// Of several causes the lowest number.
+/// Of several causes the first in the papers' order.
 fn table(mode: u8, t: &Tracker, x: Call) -> u32 {
     let out = |v: f64| !(0.0..=1e9).contains(&v);
     match () {

@@ -1,4 +1,5 @@
-//! The proved receiving core of the ion HF modem, in Rust's own manner: slices, enums and `Result` over `include/ion.h`.
+//! The proved receiving core of the ion HF modem and the sending halves of its interleavers, in Rust's own manner: slices, enums and
+//! `Result` over `include/ion.h`.
 //!
 //! Build the library first: `rt staticlib ion` at the repository's root. Every function takes any input and ends. One that
 //! answers `Err` has written nothing. No function keeps anything between calls, so any threads may call at once.
@@ -39,16 +40,18 @@ mod sys {
             shifts_len: usize, places: *mut u32, places_len: usize, timings: *mut f64, timings_len: usize, heard: u8, early: f64, late: f64,
             noise: f64,
         ) -> u32;
-        pub fn ion_version_0() -> u32;
+        pub fn ion_interleave(bits: *const u8, bits_len: usize, slots: *mut u8, slots_len: usize) -> u32;
+        pub fn ion_interleave_sym(symbols: *const u8, symbols_len: usize, values: *mut u8, values_len: usize) -> u32;
+        pub fn ion_version_101() -> u32;
     }
 }
 
 /// The number of the last change request that is in; 0 is the base. The library has it in a symbol's name, so a library of another
 /// version does not link.
-pub const VERSION: u32 = 0;
+pub const VERSION: u32 = 101;
 
 #[used]
-static VERSION_LINKED: unsafe extern "C" fn() -> u32 = sys::ion_version_0;
+static VERSION_LINKED: unsafe extern "C" fn() -> u32 = sys::ion_version_101;
 
 /// Terms of a symbol: five rows of 52.
 pub const TERMS: usize = 260;
@@ -58,8 +61,10 @@ pub const VALUES: usize = 32;
 pub const STATES: usize = 16_384;
 /// Words of decisions for each header symbol.
 pub const DECISIONS: usize = STATES / 64;
-/// The most bits that soft values are worked out for.
+/// The most bits that are sent, or that soft values are worked out for.
 pub const BITS: u32 = 10_240;
+/// The most code symbols that are sent.
+pub const SYMBOLS: usize = 2_048;
 /// The most bits of a CRC.
 pub const CRC_BITS: usize = 1_024;
 /// The most symbols that a tracker follows.
@@ -104,13 +109,14 @@ pub enum Form {
     Symbols = 1,
 }
 
-/// Why nothing was done: document 01's causes. Of several causes, the one of the lowest number.
+/// Why nothing was done: the papers' causes. Of several causes, the one whose number comes first in the order 1, 2, 3, 4, 5, 11, 6, 7, 8,
+/// 9, 10.
 #[derive(Clone, Copy, Debug, PartialEq, Eq, Hash)]
 #[non_exhaustive]
 pub enum Refusal {
     /// A mode or kind that is not named.
     Name,
-    /// More than 10,240 bits, or a multiplier's length above that.
+    /// More than 10,240 bits or 2,048 symbols, or a multiplier's length above 10,240.
     Count,
     /// A window that the mode does not have.
     Window,
@@ -128,20 +134,24 @@ pub enum Refusal {
     Tracker,
     /// Over 64 blocks, or a block out of range or falling.
     Blocks,
+    /// A symbol value above 31.
+    Value,
     /// A number that these bindings have no name for. No function of this version answers one.
     Unnamed(u32),
 }
 
 impl Refusal {
-    const NAMED: [Refusal; 10] = [
+    /// By their numbers, from 1 on.
+    const NAMED: [Refusal; 11] = [
         Refusal::Name, Refusal::Count, Refusal::Window, Refusal::Length, Refusal::Bit, Refusal::Term, Refusal::Blanked, Refusal::Sample,
-        Refusal::Tracker, Refusal::Blocks,
+        Refusal::Tracker, Refusal::Blocks, Refusal::Value,
     ];
 
-    /// The number in document 01's table.
+    /// The number in the papers.
     ///
     /// ```
     /// assert_eq!(ion_proved::Refusal::Blocks.number(), 10);
+    /// assert_eq!(ion_proved::Refusal::Value.number(), 11);
     /// ```
     pub fn number(self) -> u32 {
         match self {
@@ -162,7 +172,7 @@ impl fmt::Display for Refusal {
     fn fmt(&self, f: &mut fmt::Formatter<'_>) -> fmt::Result {
         let why = match self {
             Refusal::Name => "mode or kind not named",
-            Refusal::Count => "more than 10,240",
+            Refusal::Count => "more than 10,240 bits or 2,048 symbols, or a length above 10,240",
             Refusal::Window => "window not of the mode",
             Refusal::Length => "a buffer has another length than stated",
             Refusal::Bit => "a bit byte above 1",
@@ -171,6 +181,7 @@ impl fmt::Display for Refusal {
             Refusal::Sample => "an energy or noise not in 0 to 10^9",
             Refusal::Tracker => "2,048 symbols were tracked already",
             Refusal::Blocks => "over 64 blocks, or a block out of range or falling",
+            Refusal::Value => "a symbol value above 31",
             Refusal::Unnamed(_) => "a number without a name here",
         };
         write!(f, "refused by number {}: {why}", self.number())
@@ -254,6 +265,51 @@ pub fn crc(mode: Mode, kind: Kind, bits: &[u8]) -> Result<u16, Refusal> {
 pub fn header_values(mode: Mode, kind: Kind, bits: &[u8], values: &mut [u8]) -> Result<(), Refusal> {
     // SAFETY: both slices are told with their own lengths and cannot overlap.
     Refusal::told(unsafe { sys::ion_header_values(mode as u8, kind as u8, bits.as_ptr(), bits.len(), values.as_mut_ptr(), values.len()) })
+}
+
+/// The slots of so many bits: five for each symbol.
+pub const fn slots_of(bits: usize) -> usize {
+    5 * bits.div_ceil(5)
+}
+
+/// Sends up to 10,240 data bits, a byte each, in [`slots_of`] them: slot (a·p) mod n holds bit p with its scramble bit added modulo 2, and
+/// a slot that no bit reaches 0. Five slots are a tone: slot 5·i + k is bit k, from the lowest, of the Gray code of symbol i's value.
+///
+/// Proved, for any length: the slots read as soft bits of +1 for 0 and -1 for 1, put back in order and unscrambled, give every bit its
+/// sign back.
+///
+/// ```
+/// use ion_proved::{interleave, slots_of, Refusal};
+/// let mut slots = [9; slots_of(7)];
+/// assert_eq!(interleave(&[1, 0, 1, 1, 0, 0, 1], &mut slots), Ok(()));
+/// assert_eq!(slots, [1, 1, 0, 0, 1, 0, 0, 1, 1, 0]);
+/// // refused, and as it was
+/// assert_eq!(interleave(&[1, 0, 1, 1, 0, 0, 2], &mut slots), Err(Refusal::Bit));
+/// assert_eq!(interleave(&[1, 0, 1, 1], &mut slots), Err(Refusal::Length));
+/// assert_eq!(slots, [1, 1, 0, 0, 1, 0, 0, 1, 1, 0]);
+/// assert_eq!(interleave(&[0; 10_241], &mut slots), Err(Refusal::Count));
+/// ```
+pub fn interleave(bits: &[u8], slots: &mut [u8]) -> Result<(), Refusal> {
+    // SAFETY: both slices are told with their own lengths and cannot overlap.
+    Refusal::told(unsafe { sys::ion_interleave(bits.as_ptr(), bits.len(), slots.as_mut_ptr(), slots.len()) })
+}
+
+/// Sends up to 2,048 code symbols of 0 to 31: slot (a·p) mod n holds symbol p, changed by its five-bit scramble. A slot's value is its
+/// data symbol's.
+///
+/// Proved, for any length: whatever metrics the slots have, put back in order and unscrambled a slot's metric for its sent value is its
+/// symbol's metric for the symbol's own value.
+///
+/// ```
+/// use ion_proved::{interleave_sym, Refusal};
+/// let mut values = [99; 3];
+/// assert_eq!(interleave_sym(&[0, 31, 5], &mut values), Ok(()));
+/// assert_eq!(values, [23, 23, 13]);
+/// assert_eq!(interleave_sym(&[0, 32, 5], &mut values), Err(Refusal::Value));
+/// ```
+pub fn interleave_sym(symbols: &[u8], values: &mut [u8]) -> Result<(), Refusal> {
+    // SAFETY: both slices are told with their own lengths and cannot overlap.
+    Refusal::told(unsafe { sys::ion_interleave_sym(symbols.as_ptr(), symbols.len(), values.as_mut_ptr(), values.len()) })
 }
 
 /// Reads a header from [`TERMS`] terms for each of its symbols.

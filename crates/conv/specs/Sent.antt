@@ -1,12 +1,12 @@
 -- Document 01, 'A header sent': the public entry with its refusals, and what it leaves in the lent list.
-use Prim.Native.Nat.{ℕ, zero, suc}
+use Prim.Native.Nat.{ℕ}
 use mathlib.Core.Bool.{not, _&&_}
 use mathlib.Core.List.{List, [], _∷_}
 use lib.Dec.{eqb}
-use lib.ListN.{length, getD, set, replicate}
+use lib.ListN.{length, getD, replicate}
 use Rattle.util.specs.Refusal.{Cause, Outcome, refused, accepted, outcome, afterwards}
 use Rattle.frame.specs.Format.{named, headerBits}
-use Rattle.frame.specs.Air.{slotOf}
+use Rattle.frame.specs.Air.{placed}
 use Rattle.frame.specs.Crc.{someAboveOne}
 use Rattle.conv.specs.Label.{labelOf}
 use Rattle.conv.specs.Encoder.{walkRegister, made}
@@ -21,12 +21,7 @@ bitsOf bytes j = getD bytes j 0
 unfoldable pub stepLabel : (ℕ → ℕ) → ℕ → ℕ → ℕ
 stepLabel bits n j = labelOf (walkRegister 16384 (made bits n 14) bits j)
 
--- step j's label goes to slot (a·j) mod n: a list of slots after the first j steps
-unfoldable pub placed : ℕ → (ℕ → ℕ) → ℕ → List ℕ → List ℕ
-placed n label zero slots = slots
-placed n label (suc j) slots = set (placed n label j slots) (slotOf n j) (label j)
-
--- the labels of n header bits in slot order (every slot is written exactly once: proofs/Slots.antt)
+-- the labels of n header bits in slot order: step j's goes to slot (a·j) mod n (every slot is written exactly once: proofs/Slots.antt)
 unfoldable pub labels : ℕ → (ℕ → ℕ) → List ℕ
 labels n bits = placed n (stepLabel bits n) n (replicate n 0)
 

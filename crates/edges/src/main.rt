@@ -58,7 +58,7 @@ fn series(seed: u64, published: &[u64]) {
 fn symbols(bits: u32) {
     say::number(bits as u64);
     say::text(b" bits: ");
-    say::number(forms::symbols_of(bits));
+    say::number(interleave::symbols_of(bits));
     say::text(b" symbols\n");
 }
 

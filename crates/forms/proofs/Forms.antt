@@ -13,10 +13,10 @@ use Rattle.util.specs.Choose.{choose}
 use Rattle.util.specs.Table.{tabled, rows}
 use Rattle.util.proofs.Fill.{tabled-length, tabled-at, tabled-same, rows-at}
 use Rattle.frame.specs.Air.{slotOf}
-use Rattle.interleave.specs.Interleave.{scrambleOf, symScrambleOf, bitBack, symBack}
+use Rattle.interleave.specs.Interleave.{symbolsOf, scrambleOf, symScrambleOf, bitBack, symBack}
 use Rattle.frame.proofs.Air.{slot-within}
 use Rattle.symbol.specs.Symbol.{metricOut, softBit}
-use Rattle.forms.specs.Burst.{symbolsOf, metricAt, softAt, metricsOut, softOut}
+use Rattle.forms.specs.Burst.{metricAt, softAt, metricsOut, softOut}
 use Rattle.symbol.proofs.Same.{soft-same}
 
 -- an interleaver's answer depends on the n slots alone

@@ -1,5 +1,5 @@
 -- Document 01, 'Metrics and soft bits': the metrics and soft bits of a burst.
-use Prim.Native.Nat.{ℕ, _+_, _*_, _-_, _/_}
+use Prim.Native.Nat.{ℕ, _+_, _*_, _-_}
 use mathlib.Core.Bool.{Bool, true, false}
 use mathlib.Core.List.{List}
 use lib.ListN.{getD}
@@ -12,10 +12,6 @@ use Rattle.interleave.specs.Interleave.{bitBack, symBack}
 use Rattle.ieee.specs.Whole.{plusZero}
 use Rattle.model.specs.Metric.{metricOf}
 use Rattle.symbol.specs.Symbol.{erasedOf, metricOut, softBit}
-
--- symbols = ceil(bits/5)
-abbrev pub symbolsOf : ℕ → ℕ
-symbolsOf bits = (bits + 4) / 5
 
 -- what was received of a burst: terms, and a blanked count for each symbol
 pub record Received : Type 0 where

@@ -4,7 +4,8 @@ use Prim.Native.Nat.{ℕ, _*_, _≤_}
 use mathlib.Core.Bool.{Bool}
 use mathlib.Core.List.{List}
 use lib.Ieee.{Float}
-use Rattle.forms.specs.Burst.{symbolsOf, metricsOut, softOut}
+use Rattle.interleave.specs.Interleave.{symbolsOf}
+use Rattle.forms.specs.Burst.{metricsOut, softOut}
 
 -- t terms, n counts, w of the work area, m metrics and b soft bits are those of one burst
 pub record Lent (t n w m b : ℕ) : Type 0 where

@@ -8,15 +8,9 @@ ghost use lib.Ieee.{nan};
 ghost use Rattle.util.specs.Table.{tabled, rows};
 ghost use Rattle.ieee.specs.Whole.{plusZero};
 ghost use Rattle.symbol.specs.Symbol.{softBit};
-ghost use Rattle.forms.specs.Burst.{symbolsOf, received, valueOf, metricsOut};
+ghost use Rattle.interleave.specs.Interleave.{symbolsOf};
+ghost use Rattle.forms.specs.Burst.{received, valueOf, metricsOut};
 ghost use Rattle.forms.specs.Inside.{Lent, Made};
-
-// Inside: how many symbols a burst has: five bits to each, the last one perhaps with fewer.
-pub fn symbols_of(bits: u32) -> u64
-    ensures { λ r. ⌜ r ≡ symbolsOf bits ⌝ }
-{
-    ((bits as u64) + 4) / 5
-}
 
 // The 32 values of data symbol i.
 fn values(mode: u8, kind: u8, window: u32, terms: &[f32], blanked: &[u32], i: usize) -> [f32; 32]

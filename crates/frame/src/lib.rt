@@ -5,7 +5,7 @@ ghost use Prim.Native.Nat.{_≤_, _<_};
 ghost use mathlib.Core.List.{[], _∷_};
 ghost use Rattle.frame.specs.Format.{r0, r1, formatOf, headerBits, named, listed};
 ghost use Rattle.frame.specs.Air.{hopOf, binOf, placeOf, slotOf};
-ghost use Rattle.frame.specs.Crc.{startOf, someAboveOne, meaning, crcAnswer};
+ghost use Rattle.frame.specs.Crc.{startOf, someAbove, someAboveOne, meaning, crcAnswer};
 
 // 28 ms symbols on a 50 Hz grid.
 pub struct R0;
@@ -176,16 +176,23 @@ pub fn crc_init(mode: u8, kind: u8) -> u16
     }
 }
 
-// Inside: whether some byte is above 1, so that it is no bit.
-pub fn some_above_one(bits: &[u8]) -> bool
-    ensures { λ r. ⌜ r ≡ someAboveOne (now (bits .entry)) ⌝ }
+// Inside: whether some byte is above a limit.
+pub fn some_above(limit: u8, bytes: &[u8]) -> bool
+    ensures { λ r. ⌜ r ≡ someAbove limit (now (bytes .entry)) ⌝ }
 {
-    for i in 0..bits.len() {
-        if bits[i] > 1 {
+    for i in 0..bytes.len() {
+        if bytes[i] > limit {
             return true;
         }
     }
     false
+}
+
+// Inside: whether some byte is above 1, so that it is no bit.
+pub fn some_above_one(bits: &[u8]) -> bool
+    ensures { λ r. ⌜ r ≡ someAboveOne (now (bits .entry)) ⌝ }
+{
+    some_above(1, bits)
 }
 
 // The CRC, or the refusal's number.

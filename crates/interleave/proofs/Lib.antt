@@ -1,2 +1,4 @@
 -- Laws of this crate's definitions, for its own proofs and its callers'.
-pub mod Interleave
+pub mod Scramblers
+pub mod Refused
+pub mod RoundTrip

@@ -1,12 +1,16 @@
 -- Document 01, 'Modes and air order' and 'Metrics and soft bits': the scramblers and the receiving halves of both
 -- interleavers. The scramblers' constants are the Rust's (phy_mfsk/frame.rs), which document 01 takes by name.
-use Prim.Native.Nat.{ℕ, _%_}
+use Prim.Native.Nat.{ℕ, _+_, _/_, _%_}
 use lib.Bits.{bitXor}
 use lib.Dec.{eqb}
 use lib.Ieee.{Float, neg}
 use Rattle.util.specs.Choose.{choose}
 use Rattle.util.specs.SplitMix.{firstOutput}
 use Rattle.frame.specs.Air.{slotOf}
+
+-- symbols = ceil(bits/5)
+abbrev pub symbolsOf : ℕ → ℕ
+symbolsOf bits = (bits + 4) / 5
 
 -- the scrambling bit of data bit p, and the scrambling value of code symbol p
 unfoldable pub scrambleOf : ℕ → ℕ

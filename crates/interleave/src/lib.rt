@@ -1,14 +1,23 @@
-// The receiving interleavers (phy_mfsk/frame.rs): the two scramblers, and what was heard slot by slot put back in the
-// order of data bits, or of code symbols. Definitions in specs/.
+// Both interleavers (phy_mfsk/frame.rs): the two scramblers; the receiving halves, which put what was heard slot by slot back
+// in the order of data bits, or of code symbols; and the sending halves, two public entries. Definitions in specs/.
 ghost use mathlib.Core.Path.{_≡_};
-ghost use Prim.Native.Nat.{_+_, _*_, _≤_, _<_};
+ghost use Prim.Native.Nat.{_+_, _*_, _%_, _≤_, _<_};
 ghost use lib.Dec.{eqb};
 ghost use lib.Ieee.{nan, neg};
-ghost use lib.ListN.{length, getD};
+ghost use lib.ListN.{length, getD, replicate};
 ghost use lib.Bits.{bitXor};
 ghost use Rattle.util.specs.Choose.{choose};
 ghost use Rattle.util.specs.Table.{tabled, rows, Stored};
-ghost use Rattle.interleave.specs.Interleave.{scrambleOf, symScrambleOf, bitBack, symBack};
+ghost use Rattle.frame.specs.Air.{placed};
+ghost use Rattle.interleave.specs.Interleave.{symbolsOf, scrambleOf, symScrambleOf, bitBack, symBack};
+ghost use Rattle.interleave.specs.Sending.{scrambledOf, meaning, bitsAnswer, slotsAfter, symbolsAnswer, valuesAfter};
+
+// Inside: how many symbols a burst has: five bits to each, the last one perhaps with fewer.
+pub fn symbols_of(bits: u32) -> u64
+    ensures { λ r. ⌜ r ≡ symbolsOf bits ⌝ }
+{
+    ((bits as u64) + 4) / 5
+}
 
 // Inside: scrambling bit of data bit p.
 pub fn scramble(p: u64) -> u64
@@ -69,4 +78,79 @@ pub fn deinterleave_sym(n: u64, slots: &[f32], out: &mut [f32])
         let s = (a * p % n) as usize;
         take_symbol(slots, s, sym_scramble(p), out, p as usize);
     }
+}
+
+// Every slot 0, so that one that no bit reaches carries it.
+fn clear(slots: &mut [u8])
+    ensures { λ _. ⌜ now (slots .exit) ≡ replicate (length (now (slots .entry))) 0 ⌝ }
+{
+    for s in 0..slots.len() {
+        slots[s] = 0;
+    }
+}
+
+// Data bit p, or code symbol p, as it is sent.
+fn scrambled(symbols: bool, x: u8, p: u64) -> u8
+    ensures { λ r. ⌜ r ≡ choose symbols (bitXor x (symScrambleOf p)) ((x + scrambleOf p) % 2) ⌝ }
+{
+    if symbols {
+        return ((x as u64) ^ sym_scramble(p)) as u8;
+    }
+    (((x as u64) + scramble(p)) % 2) as u8
+}
+
+// Each bit, or each symbol, to its slot among n.
+fn place(n: u64, symbols: bool, message: &[u8], slots: &mut [u8])
+    requires { ⌜ (n ≤ 10240) × (length (now message) ≤ n) × (length (now slots) ≡ n) ⌝ }
+    ensures { λ _. ⌜ now (slots .exit) ≡ placed n (scrambledOf symbols (now (message .entry))) (length (now (message .entry))) (now (slots .entry)) ⌝ }
+{
+    let a = util::mult(n);
+    for p in 0..message.len() {
+        let s = (a * (p as u64) % n) as usize;
+        slots[s] = scrambled(symbols, message[p], p as u64);
+    }
+}
+
+// Done, or the refusal's number.
+pub enum Interleaved {
+    Done,
+    Refused(u8),
+}
+
+// Public entry: data bits, slot by slot (document 02, #101). The lent slots are five for each symbol of the bits.
+pub fn interleave(bits: &[u8], slots: &mut [u8]) -> Interleaved
+    ensures answer { λ r. ⌜ meaning r ≡ bitsAnswer (now (bits .entry)) (length (now (slots .entry))) ⌝ }
+    ensures lent { λ _. ⌜ now (slots .exit) ≡ slotsAfter (now (bits .entry)) (now (slots .entry)) ⌝ }
+{
+    if bits.len() > 10240 {
+        return Interleaved::Refused(2);
+    }
+    let n = 5 * symbols_of(bits.len() as u32);
+    if slots.len() != n as usize {
+        return Interleaved::Refused(4);
+    }
+    if frame::some_above_one(bits) {
+        return Interleaved::Refused(5);
+    }
+    clear(slots);
+    place(n, false, bits, slots);
+    Interleaved::Done
+}
+
+// Public entry: code symbols, slot by slot (document 02, #101). As many values are lent as there are symbols.
+pub fn interleave_sym(symbols: &[u8], values: &mut [u8]) -> Interleaved
+    ensures answer { λ r. ⌜ meaning r ≡ symbolsAnswer (now (symbols .entry)) (length (now (values .entry))) ⌝ }
+    ensures lent { λ _. ⌜ now (values .exit) ≡ valuesAfter (now (symbols .entry)) (now (values .entry)) ⌝ }
+{
+    if symbols.len() > 2048 {
+        return Interleaved::Refused(2);
+    }
+    if values.len() != symbols.len() {
+        return Interleaved::Refused(4);
+    }
+    if frame::some_above(31, symbols) {
+        return Interleaved::Refused(11);
+    }
+    place(symbols.len() as u64, true, symbols, values);
+    Interleaved::Done
 }

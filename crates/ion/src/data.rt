@@ -2,7 +2,7 @@
 ghost use mathlib.Core.Bool.{not};
 ghost use lib.Dec.{eqb};
 ghost use Rattle.soft.specs.Entry.{asked};
-ghost use Rattle.ion.specs.Face.{SoftFace};
+ghost use Rattle.soft_face.specs.Face.{SoftFace};
 
 #[no_mangle]
 pub extern "C" fn ion_soft_values(
@@ -20,10 +20,10 @@ pub extern "C" fn ion_soft_values(
     ensures face { λ r. ⌜ SoftFace (asked mode kind (not (eqb symbols 0)) window bits (now (terms .entry)) (now (blanked .entry))
         (now (work .entry)) (now (metrics .entry)) (now (soft .entry))) r (now (work .exit)) (now (metrics .exit)) (now (soft .exit)) ⌝ }
 {
-    match soft::soft_values(
+    soft_face::values(
         mode,
         kind,
-        symbols != 0,
+        symbols,
         window,
         bits,
         terms,
@@ -31,8 +31,5 @@ pub extern "C" fn ion_soft_values(
         work,
         metrics,
         soft,
-    ) {
-        soft::Soft::Done => 0,
-        soft::Soft::Refused(k) => k as u32,
-    }
+    )
 }

@@ -3,20 +3,14 @@
 ghost use mathlib.Core.Path.{_≡_};
 ghost use Rattle.util.specs.Refusal.{number, place, itself};
 ghost use Rattle.fit.specs.Lists.{fitOver};
-ghost use Rattle.tracker_face.specs.Face.{trackerOf, sampleOf, TrackFace};
+ghost use Rattle.timing_face.specs.Face.{trackerOf, sampleOf, TrackFace};
 
 #[no_mangle]
 pub extern "C" fn ion_fit_drift(mode: u8, places: &[u32], timings: &[f64], drift: &mut f64) -> u32
     ensures answer { λ r. ⌜ r ≡ number (fitOver mode (now (places .entry)) (now (timings .entry))) ⌝ }
     ensures lent { λ _. ⌜ now (drift .exit) ≡ place itself (fitOver mode (now (places .entry)) (now (timings .entry))) (now (drift .entry)) ⌝ }
 {
-    match fit::fit_over(mode, places, timings) {
-        fit::Fit::Drift(d) => {
-            *drift = d;
-            0
-        }
-        fit::Fit::Refused(k) => k as u32,
-    }
+    timing_face::fit(mode, places, timings, drift)
 }
 
 #[no_mangle]
@@ -42,7 +36,7 @@ pub extern "C" fn ion_track_timing(
         (trackerOf (now (n .exit)) (now (shift .exit)) (now (tnum .exit)) (now (tden .exit)) (now (drift .exit)) (now (blocks .exit)))
         (now (shifts .exit)) (now (places .exit)) (now (timings .exit)) ⌝ }
 {
-    tracker_face::track(
+    timing_face::track(
         mode,
         n,
         shift,

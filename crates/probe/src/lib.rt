@@ -1,14 +1,18 @@
 // Doors to parts that serve inside, as C functions: oracle/ holds them against the Rust, and the program `vectors` replays
 // recorded answers through them. Where there is no answer a door gives 2^32. The entries have the face, crate `ion`.
 ghost use mathlib.Core.Path.{_≡_};
+ghost use Prim.Native.Nat.{_/_};
 ghost use lib.Dec.{ltb};
+ghost use lib.ListN.{length};
 ghost use Rattle.util.specs.Choose.{choose};
 ghost use Rattle.util.specs.SplitMix.{firstOutput};
 ghost use Rattle.util.specs.Gray.{grayOf};
 ghost use Rattle.frame.specs.Format.{formatOf, headerBits, listed};
 ghost use Rattle.frame.specs.Air.{hopOf, binOf, slotOf};
 ghost use Rattle.interleave.specs.Interleave.{scrambleOf, symScrambleOf};
+ghost use Rattle.interleave.specs.RoundTrip.{bitsBack, metricsBack};
 ghost use Rattle.lse.specs.Lse.{expOf, ln1pOf};
+ghost use Rattle.probe.specs.Doors.{bitsFit, symbolsFit};
 
 #[no_mangle]
 pub extern "C" fn probe_mix64(seed: u64) -> u64
@@ -55,6 +59,45 @@ pub extern "C" fn probe_sym_scramble(p: u64) -> u64
     ensures { λ r. ⌜ r ≡ symScrambleOf p ⌝ }
 {
     interleave::sym_scramble(p)
+}
+
+// Soft bits of the slots of up to 10,240 bits, back in data-bit order. 0 where it is done.
+#[no_mangle]
+pub extern "C" fn probe_deinterleave(slots: &[f32], out: &mut [f32]) -> u64
+    ensures answer { λ r. ⌜ r ≡ choose (bitsFit (length (now (slots .entry))) (length (now (out .entry)))) 0 0x1_0000_0000 ⌝ }
+    ensures lent { λ _. ⌜ now (out .exit) ≡ choose (bitsFit (length (now (slots .entry))) (length (now (out .entry))))
+        (bitsBack (length (now (out .entry))) (now (slots .entry))) (now (out .entry)) ⌝ }
+{
+    if out.len() > 10240 {
+        return 0x1_0000_0000;
+    }
+    let n = 5 * interleave::symbols_of(out.len() as u32);
+    if slots.len() != n as usize {
+        return 0x1_0000_0000;
+    }
+    interleave::deinterleave(n, slots, out);
+    0
+}
+
+// Metrics of up to 2,048 slots, 32 to each, back in the order and the values of code symbols. 0 where it is done.
+#[no_mangle]
+pub extern "C" fn probe_deinterleave_sym(slots: &[f32], out: &mut [f32]) -> u64
+    ensures answer { λ r. ⌜ r ≡ choose (symbolsFit (length (now (slots .entry))) (length (now (out .entry)))) 0 0x1_0000_0000 ⌝ }
+    ensures lent { λ _. ⌜ now (out .exit) ≡ choose (symbolsFit (length (now (slots .entry))) (length (now (out .entry))))
+        (metricsBack (length (now (out .entry)) / 32) (now (slots .entry))) (now (out .entry)) ⌝ }
+{
+    let n = out.len() / 32;
+    if n > 2048 {
+        return 0x1_0000_0000;
+    }
+    if out.len() != 32 * n {
+        return 0x1_0000_0000;
+    }
+    if slots.len() != 32 * n {
+        return 0x1_0000_0000;
+    }
+    interleave::deinterleave_sym(n as u64, slots, out);
+    0
 }
 
 // The header slot of step j.

@@ -1,5 +1,5 @@
-// Recorded answers of the Rust, which oracle/record.rs writes: 17 bytes a record, what was asked, its argument and the
-// answer, both with the lowest byte first. The programs that replay them read and count them here.
+// Recorded answers, the Rust's and where it has none a second model's, which oracle/record.rs writes: 17 bytes a record, what
+// was asked, its argument and the answer, both with the lowest byte first. The programs that replay them read and count them here.
 ghost use Prim.Native.Nat.{_+_, _/_, _≤_, _<_};
 ghost use lib.ListN.{length};
 ghost use mathlib.Core.Path.{_≡_};
@@ -68,7 +68,7 @@ pub fn agrees(record: Record, ours: u64) -> bool {
     say::number(record.asked);
     say::text(b": ");
     say::number(ours);
-    say::text(b", the Rust ");
+    say::text(b", recorded ");
     say::number(recorded);
     say::text(b"\n");
     false
@@ -76,6 +76,6 @@ pub fn agrees(record: Record, ours: u64) -> bool {
 
 // Inside: the last line of a replay.
 pub fn tally(same: u64, all: usize) {
-    say::text(b"answers of the Rust replayed: ");
+    say::text(b"recorded answers replayed: ");
     say::tally(same, all);
 }

@@ -13,7 +13,8 @@ use Rattle.util.specs.Refusal.{Cause, Outcome, refused, accepted, outcome, afte
 use Rattle.frame.specs.Format.{formatOf, listed}
 use Rattle.ieee.specs.Whole.{plusZero}
 use Rattle.model.specs.Range.{someOut}
-use Rattle.forms.specs.Burst.{symbolsOf, metricsOut, softOut}
+use Rattle.interleave.specs.Interleave.{symbolsOf}
+use Rattle.forms.specs.Burst.{metricsOut, softOut}
 use Rattle.forms.specs.Inside.{Lent, Made}
 use Rattle.soft.specs.Entry.{Asked, countOut, sizes, sized, causes, softAnswer, valuesOf, metricsAfter, softAfter, workAfter}
 

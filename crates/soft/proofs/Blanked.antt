@@ -18,7 +18,8 @@ use Rattle.ieee.proofs.Folds.{run-same}
 use Rattle.model.specs.Metric.{metricOf}
 use Rattle.model.proofs.Terms.{place-in-row}
 use Rattle.symbol.specs.Symbol.{erasedOf}
-use Rattle.forms.specs.Burst.{symbolsOf, received, metricsOut, softOut}
+use Rattle.interleave.specs.Interleave.{symbolsOf}
+use Rattle.forms.specs.Burst.{received, metricsOut, softOut}
 use Rattle.soft.specs.Entry.{Asked, asked, softAnswer, valuesOf, metricsAfter, softAfter, workAfter}
 use Rattle.forms.proofs.Ways.{value-erased, value-kept}
 use Rattle.soft.proofs.Answer.{accepted-all, lengths-are}

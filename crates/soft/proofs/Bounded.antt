@@ -17,7 +17,7 @@ use Rattle.util.proofs.Fill.{tabled-at}
 use Rattle.util.proofs.Some.{none-of}
 use Rattle.frame.specs.Format.{formatOf, headerBits}
 use Rattle.frame.specs.Air.{hopOf, binOf, placeOf, slotOf}
-use Rattle.interleave.specs.Interleave.{scrambleOf, symScrambleOf, bitBack, symBack}
+use Rattle.interleave.specs.Interleave.{symbolsOf, scrambleOf, symScrambleOf, bitBack, symBack}
 use Rattle.frame.proofs.Air.{bins-some, bins-most, slot-within}
 use Rattle.ieee.specs.Whole.{plusZero, run}
 use Rattle.ieee.specs.Within.{Within}
@@ -27,7 +27,7 @@ use Rattle.model.specs.Metric.{termAt, metricOf}
 use Rattle.model.proofs.Terms.{place-in-row, term-in-symbol}
 use Rattle.lse.specs.Lse.{float32, negative}
 use Rattle.symbol.specs.Symbol.{erasedOf}
-use Rattle.forms.specs.Burst.{symbolsOf, received, metricAt, softAt, metricsOut, softOut}
+use Rattle.forms.specs.Burst.{received, metricAt, softAt, metricsOut, softOut}
 use Rattle.soft.specs.Entry.{Asked, softAnswer, valuesOf}
 use Rattle.forms.proofs.Ways.{value-erased, value-kept}
 use Rattle.forms.proofs.Forms.{scrambled-below}

@@ -10,7 +10,8 @@ use Rattle.util.specs.Refusal.{Cause, Outcome, refused, accepted, outcome, afte
 use Rattle.frame.specs.Format.{formatOf, named, listed}
 use Rattle.ieee.specs.Whole.{plusZero}
 use Rattle.model.specs.Range.{someOut}
-use Rattle.forms.specs.Burst.{symbolsOf, received, valueOf, metricsOut, softOut}
+use Rattle.interleave.specs.Interleave.{symbolsOf}
+use Rattle.forms.specs.Burst.{received, valueOf, metricsOut, softOut}
 use Rattle.soft.specs.declared.Soft.{Soft}
 use Rattle.soft.specs.declared.Soft.the-variants.{Done, Refused}
 

@@ -4,7 +4,7 @@ ghost use mathlib.Core.Path.{_≡_};
 ghost use mathlib.Core.Bool.{true, false};
 ghost use Prim.Native.Nat.{_*_, _-_};
 ghost use Rattle.util.specs.Some.{someOf};
-ghost use Rattle.forms.specs.Burst.{symbolsOf};
+ghost use Rattle.interleave.specs.Interleave.{symbolsOf};
 ghost use Rattle.soft.specs.Entry.{asked, countOut, sizes, meaning, softAnswer, metricsAfter, softAfter, workAfter};
 
 // Whether a blanked count is above 255·window.
@@ -30,7 +30,7 @@ fn some_count_out(window: u32, blanked: &[u32]) -> bool
 fn sized(bits: u32, terms: usize, blanked: usize, work: usize, metrics: usize, soft: usize) -> bool
     ensures { λ r. ⌜ r ≡ sizes (symbolsOf bits) bits terms blanked work metrics soft ⌝ }
 {
-    let n = forms::symbols_of(bits) as usize;
+    let n = interleave::symbols_of(bits) as usize;
     if terms != 260 * n {
         return false;
     }

@@ -1,10 +1,11 @@
-// Replays answers of the Rust, recorded by oracle/record.rs, against the proved parts; the records' shape is crate `records`.
+// Replays the answers that oracle/record.rs has recorded, against the proved parts; the records' shape is crate `records`.
 ghost use Prim.Native.Nat.{_+_, _≤_};
 ghost use lib.ListN.{length};
 use libc::STDIN_FILENO;
 
 mod bursts;
 mod read;
+mod sending;
 
 fn mult(n: u64) -> u64 {
     let mut factor = 0u64;
@@ -88,6 +89,7 @@ fn answer(what: u8, asked: u64) -> u64 {
         9 => probe::probe_symbol((asked % 256) as u8),
         10 => probe::probe_bins((asked % 256) as u8),
         11 => probe::probe_has_window((asked % 256) as u8, ((asked >> 8) % 65536) as u32),
+        12 | 13 => sending::answer(what, asked),
         _ => long(what, asked),
     }
 }

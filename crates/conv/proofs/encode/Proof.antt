@@ -7,17 +7,18 @@ use mathlib.Core.Path.{_≡_, refl, sym, ap, _∙_}
 use native.Mathlib.Numerals.{add-one}
 use native.Mathlib.Omega.{arith}
 use borrow.Author.Needs.{needs}
-use lib.ListN.{length, set}
+use lib.ListN.{length}
 use Rattle.frame.specs.Format.{headerBits}
-use Rattle.frame.specs.Air.{slotOf}
+use Rattle.frame.specs.Air.{placed}
 use Rattle.frame.specs.Crc.{someAboveOne}
 use Rattle.frame.proofs.Air.{header-least, slot-within}
+use Rattle.frame.proofs.Placed.{placed-step, placed-long}
 use Rattle.conv.specs.Label.{labelOf}
 use Rattle.conv.specs.Encoder as encoder
-use Rattle.conv.specs.Sent.{bitsOf, stepLabel, placed}
+use Rattle.conv.specs.Sent.{bitsOf, stepLabel}
 use Rattle.conv.proofs.Closed.{state-below, made-below, bits-below}
 use Rattle.conv.proofs.Linear.{label-lt}
-use Rattle.conv.proofs.Slots.{placed-length, labels-over}
+use Rattle.conv.proofs.Slots.{labels-over}
 use Rattle.conv.proofs.encode.Statement.{statement}
 use Rattle.conv.proofs.encode.Tie as tie
 
@@ -44,16 +45,6 @@ small l r e = omega (arith, label-lt r)
 after-next : (bits : List ℕ) (n j : ℕ) → after bits n (j + 1) ≡ encoder.register (after bits n j) (bitsOf bits j) % 16384
 unfolding after encoder.state
 after-next bits n j = ap (after bits n) (add-one j)
-
-placed-next : (n : ℕ) (label : ℕ → ℕ) (was : List ℕ) (j : ℕ) → placed n label (j + 1) was ≡ set (placed n label j was) (slotOf n j) (label j)
-unfolding placed
-placed-next n label was j = ap (λ (m : ℕ). placed n label m was) (add-one j)
-
-placed-long : (n : ℕ) (label : ℕ → ℕ) (was l : List ℕ) (j : ℕ) → l ≡ placed n label j was → length l ≡ length was
-placed-long n label was l j e = ap length e ∙ placed-length n label was j
-
-stored : (l l′ : List ℕ) (s s′ v v′ : ℕ) → l ≡ l′ → s ≡ s′ → v ≡ v′ → set l s v ≡ set l′ s′ v′
-stored l l′ s s′ v v′ p q r = cc
 
 start-requires : tie.Need-start-requires Inv-loop μ-loop
 start-requires c κs =
@@ -129,7 +120,7 @@ loop-again c =
     c .label .ensures ∙ ap (λ (p : ℕ). labelOf (encoder.register p (bitsOf bits j))) (at .loop .inv .1) in (
       omega (arith, begin .pre .0),
       ap (λ (p : ℕ). encoder.register p (bitsOf bits j) % 16384) (at .loop .inv .1) ∙ sym (after-next bits n j),
-      stored _ _ _ _ _ _ (at .loop .inv .2) (c .before .header-slot .ensures) step ∙ sym (placed-next n (stepLabel (bitsOf bits) n) was j),
+      placed-step n (stepLabel (bitsOf bits) n) was _ j _ _ (at .loop .inv .2) (c .before .header-slot .ensures) step,
     )
 
 same-length : tie.Need-same-length Inv-loop μ-loop

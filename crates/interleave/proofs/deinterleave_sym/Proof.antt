@@ -10,7 +10,7 @@ use lib.Ieee.{Float, nan}
 use lib.ListN.{length, getD}
 use Rattle.frame.specs.Air.{slotOf}
 use Rattle.interleave.specs.Interleave.{symBack}
-use Rattle.interleave.proofs.Interleave.{scrambled-below}
+use Rattle.interleave.proofs.Scramblers.{scrambled-below}
 use Rattle.util.proofs.Fill.{rows-more, rows-at, tabled-only}
 use Rattle.util.proofs.Halves.{below}
 use Rattle.util.proofs.Slots.{slot-below}
