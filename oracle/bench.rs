@@ -113,6 +113,24 @@ fn tracker(repeats: usize, name: &str, mode: u8) {
     line(name, &done);
 }
 
+/// Data sent, the longest message of bits and of symbols, 50 times a repeat. The Rust packs five slots to a tone besides.
+fn sending(repeats: usize, name: &str, symbols: bool) {
+    let (n, below) = if symbols { (2_048, 32) } else { (10_240, 2) };
+    let done = pairs(repeats, |i, first| {
+        let mut d = Dice(5 << 50 | i << 20);
+        let message: Vec<u8> = (0..n).map(|_| d.below(below) as u8).collect();
+        let mut sent = vec![0u8; n];
+        let ours = || (0..50).map(|_| if symbols { face::interleave_sym(black_box(&message), &mut sent) } else { face::interleave(black_box(&message), &mut sent) }).max();
+        let theirs = || (0..50).map(|_| if symbols { air::data_values_sym(MfskMode::R0, black_box(&message)) } else { air::data_values(MfskMode::R0, black_box(&message)) }).last().unwrap();
+        let ((ours, k), (theirs, tones)) = by_turns(first, ours, theirs);
+        let slots = |v: &[u16; 3]| (0..5).map(|k| (air::gray(v[0] as usize) >> k & 1) as u8).collect::<Vec<u8>>();
+        let told: Vec<u8> = if symbols { tones.iter().map(|v| v[0] as u8).collect() } else { tones.iter().flat_map(slots).collect() };
+        assert!(k == Some(0) && told == sent);
+        (ours / 50.0, theirs / 50.0)
+    });
+    line(name, &done);
+}
+
 const SIZES: [usize; 9] = [64, 128, 256, 512, 768, 1024, 1280, 1536, 2048];
 /// Name and colour of a line of the plot.
 const LINES: [(&str, &str); 4] = [("ours, bit form", "#0b5cad"), ("ours, symbol form", "#58a6e8"), ("the Rust, bit form", "#a33b00"), ("the Rust, symbol form", "#ee8a4a")];
@@ -178,6 +196,8 @@ fn main() {
     line("soft values, symbol form, 512", &soft(repeats, 512, true));
     tracker(repeats, "tracker, 2,048 calls in R0", 0);
     tracker(repeats, "tracker, 2,048 calls in R1", 1);
+    sending(repeats, "bits sent, 10,240", false);
+    sending(repeats, "symbols sent, 2,048", true);
     let (few, mut lines): (usize, [Vec<f64>; 4]) = (repeats.div_ceil(4), Default::default());
     for n in SIZES {
         for form in 0..2 {

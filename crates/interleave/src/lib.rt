@@ -99,15 +99,25 @@ fn scrambled(symbols: bool, x: u8, p: u64) -> u8
     (((x as u64) + scramble(p)) % 2) as u8
 }
 
+// The slot after slot s: (s + a) mod n, without a division.
+fn next_slot(n: u64, a: u64, s: u64) -> u64
+    requires { ⌜ (n ≤ 10240) × (a ≤ n) × (s < n) ⌝ }
+    ensures { λ r. ⌜ r ≡ (s + a) % n ⌝ }
+{
+    let next = s + a;
+    if next < n { next } else { next - n }
+}
+
 // Each bit, or each symbol, to its slot among n.
 fn place(n: u64, symbols: bool, message: &[u8], slots: &mut [u8])
     requires { ⌜ (n ≤ 10240) × (length (now message) ≤ n) × (length (now slots) ≡ n) ⌝ }
     ensures { λ _. ⌜ now (slots .exit) ≡ placed n (scrambledOf symbols (now (message .entry))) (length (now (message .entry))) (now (slots .entry)) ⌝ }
 {
     let a = util::mult(n);
+    let mut s = 0u64;
     for p in 0..message.len() {
-        let s = (a * (p as u64) % n) as usize;
-        slots[s] = scrambled(symbols, message[p], p as u64);
+        slots[s as usize] = scrambled(symbols, message[p], p as u64);
+        s = next_slot(n, a, s);
     }
 }
 

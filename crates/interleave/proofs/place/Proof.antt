@@ -1,39 +1,31 @@
--- `interleave::place` meets its contract. The invariant: what was passed is placed. The measure is what is left. Assumes nothing.
-use Prim.Native.Nat.{ℕ, _-_, _*_, _%_, _≤_, _<_}
+-- `interleave::place` meets its contract. The invariant: what was passed is placed, and s is the slot of what comes next.
+-- The measure is what is left. Assumes nothing.
+use Prim.Native.Nat.{ℕ, _+_, _-_, _%_, _≤_}
 use mathlib.Core.Path.{_≡_, refl, ap, _∙_}
 use native.Mathlib.Omega.{arith}
 use borrow.Author.Needs.{needs}
 use lib.ListN.{length}
-use Rattle.util.proofs.Halves.{below}
-use Rattle.util.proofs.Slots.{slot-below}
 use Rattle.frame.specs.Air.{slotOf, placed}
+use Rattle.frame.proofs.Air.{slot-within}
 use Rattle.frame.proofs.Placed.{placed-step, placed-long}
 use Rattle.interleave.specs.Sending.{scrambledOf}
+use Rattle.interleave.proofs.Steps.{mult-most, slot-first, slot-next}
 use Rattle.interleave.proofs.place.Statement.{statement}
 use Rattle.interleave.proofs.place.Tie as tie
 
 abbrev Inv-loop : tie.InvT-loop
-Inv-loop n symbols message slots₀ a p₀ p-end slots p = (p ≤ length message) × (slots ≡ placed n (scrambledOf symbols message) p slots₀)
+Inv-loop n symbols message slots₀ a s₀ p₀ p-end slots s p =
+    (p ≤ length message) × (slots ≡ placed n (scrambledOf symbols message) p slots₀) × (s ≡ slotOf n p)
 
 abbrev μ-loop : tie.MeasureT-loop
-μ-loop n symbols message slots₀ a p₀ p-end slots p = length message - p
+μ-loop n symbols message slots₀ a s₀ p₀ p-end slots s p = length message - p
 
 mult-requires : tie.Need-mult-requires Inv-loop μ-loop
 mult-requires c κs = search needs
 
 loop-holds : tie.Need-loop-holds Inv-loop μ-loop
 unfolding placed
-loop-holds c = (omega arith, refl)
-
-mul-s : tie.Need-mul-s Inv-loop μ-loop
-mul-s c =
-    let a = c .before .before .mult .result in
-    let p = c .before .loop .p in
-    let small : a * p < 10241 * 10241 = below 10241 a p (omega (arith, c .before .before .mult .ensures .1)) (omega arith) in
-    record { fits = omega arith }
-
-rem-s : tie.Need-rem-s Inv-loop μ-loop
-rem-s c = search needs
+loop-holds c = (omega arith, refl, slot-first _)
 
 shared-slice-read-scrambled : tie.Need-shared-slice-read-scrambled Inv-loop μ-loop
 shared-slice-read-scrambled c = search needs
@@ -46,7 +38,14 @@ slice-write-slots c =
     let at = c .before .before .before in
     let a = at .before .before .before .before .args in
     let long = placed-long (a .n) (scrambledOf (a .symbols) (a .message .now)) _ _ _ (at .loop .inv .1) in
-    omega (arith, slot-below (at .before .mult .result) (at .loop .p) (a .n) (omega arith))
+    omega (arith, at .loop .inv .2, slot-within (a .n) (at .loop .p) (omega arith))
+
+next-slot-requires : tie.Need-next-slot-requires Inv-loop μ-loop
+next-slot-requires c κs =
+    let at = c .before .before .before in
+    let a = at .before .before .before .before .args in
+    let inside = slot-within (a .n) (at .loop .p) (omega arith) in
+    (omega arith, omega (arith, at .before .mult .ensures .0, mult-most (a .n) (omega arith)), omega (arith, at .loop .inv .2))
 
 add-p : tie.Need-add-p Inv-loop μ-loop
 add-p c = search needs
@@ -55,14 +54,14 @@ loop-less : tie.Need-loop-less Inv-loop μ-loop
 loop-less c = search needs
 
 loop-again : tie.Need-loop-again Inv-loop μ-loop
-unfolding slotOf
 loop-again c =
-    let at = c .before .before .before in
+    let at = c .before .before .before .before in
     let a = at .before .before .before .before .args in
     let p = at .loop .p in (
       omega arith,
-      placed-step (a .n) (scrambledOf (a .symbols) (a .message .now)) (a .slots .now) (at .loop .slots) p _ (c .scrambled .result)
-          (at .loop .inv .1) (ap (λ (m : ℕ). m * p % a .n) (at .before .mult .ensures .0)) (c .scrambled .ensures),
+      placed-step (a .n) (scrambledOf (a .symbols) (a .message .now)) (a .slots .now) (at .loop .slots) p (at .loop .s) (c .before .scrambled .result)
+          (at .loop .inv .1) (at .loop .inv .2) (c .before .scrambled .ensures),
+      c .next-slot .ensures ∙ ap (λ (m : ℕ). (at .loop .s + m) % a .n) (at .before .mult .ensures .0) ∙ slot-next (a .n) p (at .loop .s) (at .loop .inv .2),
     )
 
 same-length : tie.Need-same-length Inv-loop μ-loop
@@ -81,5 +80,5 @@ returns c =
 pub place-spec : {M : Type 1} → statement M
 place-spec =
     tie.close
-    (tie.spec Inv-loop μ-loop mult-requires loop-holds mul-s rem-s shared-slice-read-scrambled scrambled-requires slice-write-slots
-    add-p loop-less loop-again same-length returns)
+    (tie.spec Inv-loop μ-loop mult-requires loop-holds shared-slice-read-scrambled scrambled-requires slice-write-slots
+    next-slot-requires add-p loop-less loop-again same-length returns)
