@@ -1,11 +1,12 @@
 #!/bin/sh
-# Builds and runs the C examples, the Rust examples and the Rust doc tests over the static library; ends with a status above 0 where one fails.
+# Builds and runs the C examples, the Rust examples and the Rust doc tests over the static library; ends with a status
+# above 0 where one fails.
 # usage: bindings/check.sh      (from anywhere; needs a C compiler and cargo; some seconds, and some minutes more where ion is not proved yet)
 set -eu
 cd "$(dirname "$0")/.."
 case "${1:-}" in
     "") ;;
-    *) sed -n '2,3s/^# //p' "$0"; [ "$1" = --help ] || [ "$1" = -h ]; exit ;;
+    *) sed -n '2,4s/^# //p' "$0"; [ "$1" = --help ] || [ "$1" = -h ]; exit ;;
 esac
 mkdir -p target
 rt staticlib ion >target/staticlib-ion.log 2>&1 || { cat target/staticlib-ion.log >&2; exit 1; }

@@ -1,5 +1,6 @@
-// Bursts made for the port: a header and data are sent, by the Rust's own sending half or by ours, go through a channel at 8,000 complex
-// samples a second, and are heard as energies of 52 places, which the Rust's own model turns into terms. docs/BURST-FORMAT.md has the layout.
+// Bursts made for the port: a header and data are sent, by the Rust's own sending half or by ours, go through a channel
+// at 8,000 complex samples a second, and are heard as energies of 52 places, which the Rust's own model turns into
+// terms. docs/BURST-FORMAT.md has the layout.
 #![allow(dead_code)]
 use crate::inputs::Dice;
 use ion::phy_mfsk::hook::{Fmt, Kind, MfskMode, Terms, air, fitted_terms, preamble_places, prior_terms, windows};

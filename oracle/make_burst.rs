@@ -1,5 +1,5 @@
-// Writes one burst file (docs/BURST-FORMAT.md) to standard output, and what was sent to standard error. Header and data are sent by the
-// entries of libion.a, or by the Rust's functions.
+// Writes one burst file (docs/BURST-FORMAT.md) to standard output, and what was sent to standard error. Header and data
+// are sent by the entries of libion.a, or by the Rust's functions.
 #[allow(dead_code)] // only what sends
 mod face;
 mod inputs;

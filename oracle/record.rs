@@ -3,7 +3,8 @@
 use ion::phy_mfsk::hook::{Fmt, Kind, MfskMode, Terms, Tracker, air, code, decode_terms, decode_terms_told, fit_drift, soft_terms, windows};
 use std::io::Write;
 
-/// The terms that crates/vectors works out from a seed: whole numbers from -2 to 2, with the values of a header raised by up to 7.
+/// The terms that crates/vectors works out from a seed: whole numbers from -2 to 2, with the values of a header raised
+/// by up to 7.
 fn terms(mode: MfskMode, kind: Kind, seed: u64) -> Vec<Terms> {
     let fmt = Fmt::of(mode);
     let n = air::header_info_bits(kind);
@@ -40,8 +41,8 @@ fn slots(bits: &[u8]) -> Vec<u8> {
     slots
 }
 
-/// The digest that crates/vectors makes of data sent, bits or symbols worked out from a seed, or the refusal of a list too long, of `extra` places too
-/// many, or of a first one that is none.
+/// The digest that crates/vectors makes of data sent, bits or symbols worked out from a seed, or the refusal of a list
+/// too long, of `extra` places too many, or of a first one that is none.
 fn sending(symbols: bool, asked: u64) -> u64 {
     let (seed, n, extra, first) = (asked % REFUSED, (asked >> 32) % 65536, (asked >> 48) % 256, (asked >> 56) as u8);
     let (below, most, number) = if symbols { (32, 2_048, 11) } else { (2, 10_240, 5) };
@@ -78,7 +79,8 @@ fn fit(mode: MfskMode, seed: u64, n: usize, bad: bool) -> u64 {
     fit_drift(&blocks, Fmt::of(mode).sym).to_bits()
 }
 
-/// The digest that crates/series makes of a series of calls from a fresh tracker, its samples worked out from a seed: some are Missed, some out of range.
+/// The digest that crates/series makes of a series of calls from a fresh tracker, its samples worked out from a seed:
+/// some are Missed, some out of range.
 fn series(mode: MfskMode, seed: u64, calls: usize) -> u64 {
     let mut t = Tracker::new(mode);
     let mut h = seed;

@@ -1,6 +1,7 @@
 #!/bin/sh
-# Builds the Rust as it lies in ../shared/docs/src and the static library `ion`, and runs all nine entries side by side on bursts made by a
-# channel or by terms, random input and damaged input. Under 20 minutes on two cores. Ends with a table; 1 on any difference.
+# Builds the Rust as it lies in ../shared/docs/src and the static library `ion`, and runs all nine entries side by side
+# on bursts made by a channel or by terms, random input and damaged input. Under 20 minutes on two cores. Ends with a
+# table; 1 on any difference.
 # usage: oracle/scale.sh [SEED] [OPTION..]      (from anywhere; needs rustc and ../shared; writes only below target/)
 #   SEED             1 unless given; the same seed gives the same inputs whatever the threads
 #   --threads N      as many as there are cores unless given

@@ -1,5 +1,6 @@
-// Data sent: the sending halves of both interleavers against the Rust's `data_values` and `data_values_sym`, against a model written from
-// document 02, and back through the receiving halves of both sides; their refusals against the papers' table.
+// Data sent: the sending halves of both interleavers against the Rust's `data_values` and `data_values_sym`, against a
+// model written from document 02, and back through the receiving halves of both sides; their refusals against the
+// papers' table.
 use super::inputs::Dice;
 use super::{MODES, REFUSED, Section, face, told};
 use ion::phy_mfsk::hook::air;
@@ -55,7 +56,8 @@ fn differing(ours: &[u8], theirs: &[u8], counts: impl Fn(usize) -> bool) -> u64 
     ((ours.len() != theirs.len()) as usize + (0..ours.len().min(theirs.len())).filter(|&s| counts(s) && ours[s] != theirs[s]).count()) as u64
 }
 
-/// One message: the answer, all slots by the paper, and by the Rust all of them where it has no padding, else those that a bit reaches.
+/// One message: the answer, all slots by the paper, and by the Rust all of them where it has no padding, else those
+/// that a bit reaches.
 fn message(s: &mut Section, m: usize, bits: &[u8]) {
     let input = || format!("mode {m} bits {bits:?}");
     let (mut slots, before) = (vec![UNTOUCHED; slots_of(bits.len())], bits.to_vec());
@@ -169,7 +171,8 @@ fn round_trips(wrong: &mut bool) {
     s.end(wrong);
 }
 
-/// One call with a list of `room` places: the number by the papers' table, and every place untouched on a refusal, none else.
+/// One call with a list of `room` places: the number by the papers' table, and every place untouched on a refusal, none
+/// else.
 fn refused(s: &mut Section, call: fn(&[u8], &mut [u8]) -> u64, input: &[u8], room: usize, want: u64) {
     let before = input.to_vec();
     let mut lent = vec![UNTOUCHED; room];

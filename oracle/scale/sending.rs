@@ -17,7 +17,8 @@ fn by_the_paper(bits: &[u8], n: usize) -> Vec<u8> {
     slots
 }
 
-/// The Rust's slots, back from its tones, those alone that some bit reaches: in the others its padding is scrambled (docs/DIFFERENCES.md).
+/// The Rust's slots, back from its tones, those alone that some bit reaches: in the others its padding is scrambled
+/// (docs/DIFFERENCES.md).
 fn by_the_rust(mode: u64, bits: &[u8], n: usize) -> Vec<u8> {
     let tones = air::data_values(MODES[mode as usize], bits);
     let a = air::interleave_mult(n);

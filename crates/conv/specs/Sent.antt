@@ -21,7 +21,8 @@ bitsOf bytes j = getD bytes j 0
 unfoldable pub stepLabel : (ℕ → ℕ) → ℕ → ℕ → ℕ
 stepLabel bits n j = labelOf (walkRegister 16384 (made bits n 14) bits j)
 
--- the labels of n header bits in slot order: step j's goes to slot (a·j) mod n (every slot is written exactly once: proofs/Slots.antt)
+-- the labels of n header bits in slot order: step j's goes to slot (a·j) mod n (every slot is written exactly once:
+-- proofs/Slots.antt)
 unfoldable pub labels : ℕ → (ℕ → ℕ) → List ℕ
 labels n bits = placed n (stepLabel bits n) n (replicate n 0)
 

@@ -1,6 +1,5 @@
--- Step by step the values fill the slots: a step's slot keeps its value, since no later step has it; a slot of none of the steps keeps what it
--- held; and every slot is some step's.
--- Assumes nothing.
+-- Step by step the values fill the slots: a step's slot keeps its value, since no later step has it; a slot of none of
+-- the steps keeps what it held; and every slot is some step's. Assumes nothing.
 use Prim.Native.Nat.{ℕ, zero, suc, _+_, _≤_, _<_}
 use mathlib.Core.Bool.{Bool, true, false}
 use mathlib.Core.List.{List}

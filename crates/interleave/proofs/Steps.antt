@@ -1,5 +1,5 @@
--- From one slot to the next: (a·(p + 1)) mod n is a further than (a·p) mod n, less n where that is n or more, and a is at most n.
--- Assumes nothing.
+-- From one slot to the next: (a·(p + 1)) mod n is a further than (a·p) mod n, less n where that is n or more, and a is
+-- at most n. Assumes nothing.
 use Prim.Native.Nat.{ℕ, zero, suc, _+_, _-_, _*_, _%_, _≤_, _<_}
 use mathlib.Core.Path.{_≡_, sym, ap, _∙_}
 use native.Mathlib.Nat.{zero-mod, mod-eq-of-lt, mod-add-mod, mod-eq-sub-mod, mul-zero}

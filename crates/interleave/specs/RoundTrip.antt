@@ -17,7 +17,8 @@ use Rattle.interleave.specs.Sending.{slotsFor, scrambledBit, scrambledSy
 abbrev pub sign : ℕ → Float
 sign bit = choose (eqb bit 0) (fin false 1 (pos 0)) (fin true 1 (pos 0))
 
--- what `deinterleave` hands out for so many bits of these slots, and `deinterleave_sym` of the 32 metrics of each of n slots: their promises
+-- what `deinterleave` hands out for so many bits of these slots, and `deinterleave_sym` of the 32 metrics of each of n
+-- slots: their promises
 abbrev pub bitsBack : ℕ → List Float → List Float
 bitsBack bits slots = tabled bits (bitBack (slotsFor bits) (λ s. getD slots s nan))
 

@@ -1,5 +1,6 @@
-// Both interleavers (phy_mfsk/frame.rs): the two scramblers; the receiving halves, which put what was heard slot by slot back
-// in the order of data bits, or of code symbols; and the sending halves, two public entries. Definitions in specs/.
+// Both interleavers (phy_mfsk/frame.rs): the two scramblers; the receiving halves, which put what was heard slot by
+// slot back in the order of data bits, or of code symbols; and the sending halves, two public entries. Definitions in
+// specs/.
 ghost use mathlib.Core.Path.{_≡_};
 ghost use Prim.Native.Nat.{_+_, _*_, _%_, _≤_, _<_};
 ghost use lib.Dec.{eqb};

@@ -1,5 +1,6 @@
-// Recorded answers, the Rust's and where it has none a second model's, which oracle/record.rs writes: 17 bytes a record, what
-// was asked, its argument and the answer, both with the lowest byte first. The programs that replay them read and count them here.
+// Recorded answers, the Rust's and where it has none a second model's, which oracle/record.rs writes: 17 bytes a
+// record, what was asked, its argument and the answer, both with the lowest byte first. The programs that replay them
+// read and count them here.
 ghost use Prim.Native.Nat.{_+_, _/_, _≤_, _<_};
 ghost use lib.ListN.{length};
 ghost use mathlib.Core.Path.{_≡_};

@@ -1,4 +1,5 @@
-// The soft values' face to C: the form as a number, and the answer as one. The entry itself is crate `soft`. Definitions in specs/.
+// The soft values' face to C: the form as a number, and the answer as one. The entry itself is crate `soft`.
+// Definitions in specs/.
 ghost use mathlib.Core.Bool.{not};
 ghost use lib.Dec.{eqb};
 ghost use Rattle.soft.specs.Entry.{asked};

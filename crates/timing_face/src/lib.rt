@@ -1,5 +1,6 @@
-// A burst's timing as C calls it, the fit and the tracker: a tracker's fields as six places, a block's in two lists of one length,
-// a sample as four numbers, and the answer as a number. The entries themselves are crates `fit` and `drift`. Definitions in specs/.
+// A burst's timing as C calls it, the fit and the tracker: a tracker's fields as six places, a block's in two lists of
+// one length, a sample as four numbers, and the answer as a number. The entries themselves are crates `fit` and
+// `drift`. Definitions in specs/.
 ghost use mathlib.Core.Path.{_≡_};
 ghost use lib.ListN.{length};
 ghost use Rattle.util.specs.Choose.{choose};

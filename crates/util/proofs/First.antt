@@ -1,6 +1,5 @@
--- Of an entry's causes that hold, the one answered is the first in the order of all numbers, since the causes stand in that order; and it is
--- the lowest where their numbers rise.
--- Assumes nothing.
+-- Of an entry's causes that hold, the one answered is the first in the order of all numbers, since the causes stand in
+-- that order; and it is the lowest where their numbers rise. Assumes nothing.
 use Prim.Native.Nat.{ℕ, suc, _≤_}
 use mathlib.Core.Bool.{Bool, true, false, not, _&&_, true≢false, and-eq-true-iff}
 use mathlib.Core.List.{List, [], _∷_}

@@ -26,8 +26,8 @@ abbrev pub afterwards : {A B : Type 0} → Outcome A → B → B → B
 afterwards (refused k) was new = was
 afterwards (accepted a) was new = new
 
--- the order in which causes come before each other, for every entry: document 01's numbers rise, and document 02 says of each of its own
--- which number it comes after (11 after 5)
+-- the order in which causes come before each other, for every entry: document 01's numbers rise, and document 02 says
+-- of each of its own which number it comes after (11 after 5)
 abbrev pub precedence : List ℕ
 precedence = 1 ∷ 2 ∷ 3 ∷ 4 ∷ 5 ∷ 11 ∷ 6 ∷ 7 ∷ 8 ∷ 9 ∷ 10 ∷ []
 
@@ -62,7 +62,8 @@ abbrev pub rises : ℕ → List Cause → Bool
 rises k [] = true
 rises k (c ∷ cs) = leb k (c .number) && rises (c .number) cs
 
--- of several causes that hold, an entry answers with the number that comes first; document 01's words where the causes' numbers rise
+-- of several causes that hold, an entry answers with the number that comes first; document 01's words where the causes'
+-- numbers rise
 pub record First (k : ℕ) (cs : List Cause) : Type 0 where
   pub first : NoneBefore precedence k cs
   pub lowest : rises 0 cs ≡ true → NoneBelow k cs

@@ -1,6 +1,6 @@
-// Data sent by a record: what is 12 for bits, 13 for symbols. The argument has a seed in its lowest 32 bits, then how many
-// there are in 16 bits, in 8 how many places too many are lent, and in the highest 8 what the first one is instead, if not 0.
-// The answer is a digest of the lent list.
+// Data sent by a record: what is 12 for bits, 13 for symbols. The argument has a seed in its lowest 32 bits, then how
+// many there are in 16 bits, in 8 how many places too many are lent, and in the highest 8 what the first one is
+// instead, if not 0. The answer is a digest of the lent list.
 ghost use Prim.Native.Nat.{_≤_};
 
 fn drawn(what: u8, x: u64) -> u8 {

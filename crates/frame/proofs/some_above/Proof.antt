@@ -1,5 +1,5 @@
--- `frame::some_above` meets its contract. The invariant: what is left has a byte above the limit exactly where the whole has one.
--- The measure is what is left of the length. Assumes nothing.
+-- `frame::some_above` meets its contract. The invariant: what is left has a byte above the limit exactly where the
+-- whole has one. The measure is what is left of the length. Assumes nothing.
 use Prim.Native.Nat.{_-_, _≤_}
 use mathlib.Core.Path.{_≡_, refl}
 use native.Mathlib.Omega.{arith}

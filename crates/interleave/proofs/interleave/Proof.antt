@@ -1,5 +1,5 @@
--- `interleave::interleave` meets its contract: each return by the tests that led there, and what is lent is what `place` left of cleared slots.
--- Assumes nothing.
+-- `interleave::interleave` meets its contract: each return by the tests that led there, and what is lent is what
+-- `place` left of cleared slots. Assumes nothing.
 use Prim.Native.Nat.{ℕ, _*_}
 use mathlib.Core.Bool.{false}
 use mathlib.Core.List.{List}

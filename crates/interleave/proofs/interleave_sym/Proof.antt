@@ -1,6 +1,5 @@
--- `interleave::interleave_sym` meets its contract: each return by the tests that led there; every slot is written, so nothing is left of what
--- was lent.
--- Assumes nothing.
+-- `interleave::interleave_sym` meets its contract: each return by the tests that led there; every slot is written, so
+-- nothing is left of what was lent. Assumes nothing.
 use mathlib.Core.Bool.{false}
 use mathlib.Core.Path.{_≡_, refl, sym, _∙_}
 use native.Mathlib.Omega.{arith}

@@ -1,4 +1,5 @@
--- `vectors::sending::digest` is safe and ends. The invariant: the index is at most the length; the measure is what is left of it. Assumes nothing.
+-- `vectors::sending::digest` is safe and ends. The invariant: the index is at most the length; the measure is what is
+-- left of it. Assumes nothing.
 use Prim.Native.Nat.{_-_, _≤_}
 use borrow.Author.Needs.{needs}
 use lib.ListN.{length}

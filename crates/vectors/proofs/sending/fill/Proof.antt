@@ -1,4 +1,5 @@
--- `vectors::sending::fill` is safe and ends. The invariant: the length stays. The measure is what is left of it. Assumes nothing.
+-- `vectors::sending::fill` is safe and ends. The invariant: the length stays. The measure is what is left of it.
+-- Assumes nothing.
 use Prim.Native.Nat.{_-_, _≤_}
 use mathlib.Core.Path.{_≡_, refl}
 use native.Mathlib.Omega.{arith}
