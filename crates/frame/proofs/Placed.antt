@@ -21,7 +21,7 @@ module _ (n : ℕ) (value : ℕ → ℕ) (was : List ℕ) where
   placed-length (suc m) = simp length-set (placed-length m)
 
   -- one step more, as a loop counts
-  pub placed-next : (m : ℕ) → placed n value (m + 1) was ≡ set (placed n value m was) (slotOf n m) (value m)
+  placed-next : (m : ℕ) → placed n value (m + 1) was ≡ set (placed n value m was) (slotOf n m) (value m)
   unfolding placed
   placed-next m = ap (λ (k : ℕ). placed n value k was) (add-one m)
 
