@@ -2,8 +2,8 @@
  * libion.a (`rt staticlib ion`).
  *
  * Every function takes any numbers and any buffers of the lengths that are told, and ends. It returns 0, or the number of the
- * refusal (ion_refusal has a text for each); of several causes the one that comes first in the order 1, 2, 3, 4, 5, 11, 6, 7, 8, 9, 10.
- * Results and lent buffers are written only where 0 is returned.
+ * refusal (ion_refusal has a text for each); of several causes the one that comes first in the order 1, 12, 2, 3, 4, 5, 11, 6, 7, 8, 9,
+ * 10. Results and lent buffers are written only where 0 is returned.
  *
  * Buffers: a pointer must be valid for its length and aligned as its type asks; with length 0 it may be NULL. Lent buffers must
  * overlap neither each other nor an input. Nothing is kept between calls, so any threads may call at once over buffers of their own.
@@ -12,6 +12,12 @@
  * Terms: per symbol five rows of 52 floats, row 0 first, place 0 first in each: 260. Each is a natural logarithm: row j, place e has
  * ln(p(energy at place e | a tone j-2 places below it) / p(energy | noise alone)). Bin b of the mode's grid is place b+2. A value's
  * metric is the sum of five terms, one of each row, around its bin's place; a header's score is the sum of its symbols' metrics.
+ *
+ * Layouts: a set runs layout k, 1 (the full band) to 8 (the narrowest): every duration is k times as long, every tone's distance from
+ * the centre a k-th. Samples of the baseband, windows among them, are the receiver's own, one of 6k audio samples, so that a burst looks
+ * alike in every layout. Two things depend on k: the start of a header's CRC, and how many audio samples lie behind a symbol. ion_crc and
+ * ion_soft_values take it. A header's symbol values and a header read are the same in every layout: ion_header_values and ion_read_header
+ * take none, and whoever sends or accepts a header works out its CRC in the layout in use.
  */
 #ifndef ION_H
 #define ION_H
@@ -25,16 +31,17 @@ extern "C" {
 
 /* The number of the last change request that is in; 0 is the base. Answer, outcome and tracker will grow. The library has the number
  * in a symbol's name, which every file that includes this header asks for: a library of another version does not link. */
-#define ION_VERSION 101
-uint32_t ion_version_101(void);
+#define ION_VERSION 102
+uint32_t ion_version_102(void);
 #if defined(__GNUC__)
-__attribute__((used)) static uint32_t (*const ion_version)(void) = ion_version_101;
+__attribute__((used)) static uint32_t (*const ion_version)(void) = ion_version_102;
 #endif
 
-/* modes, kinds, the form of data, what was heard of a symbol, outcomes of a header read */
+/* modes, kinds, the form of data, the first and the last layout, what was heard of a symbol, outcomes of a header read */
 enum { ION_R0 = 0, ION_R1 = 1 };
 enum { ION_HEADER_ONLY = 0, ION_DATA = 1, ION_CUE = 2 };
 enum { ION_BIT_FORM = 0, ION_SYMBOL_FORM = 1 };
+enum { ION_FULL_BAND = 1, ION_NARROWEST = 8 };
 enum { ION_MISSED = 0, ION_HEARD = 1 };
 enum { ION_SURE = 0, ION_KEPT = 1, ION_OPEN = 2 };
 
@@ -62,6 +69,7 @@ static inline const char *ion_refusal(uint32_t number) {
         "2,048 symbols were tracked already, or the tracker's rule is broken",
         "over 64 blocks, or a block out of range or falling",
         "a symbol value above 31",
+        "a layout not from 1 to 8",
     };
     return number < sizeof text / sizeof *text ? text[number] : "no number of this library";
 }
@@ -70,11 +78,14 @@ static inline const char *ion_refusal(uint32_t number) {
  * Refused: 2 (n above 10,240). */
 uint32_t ion_interleave_mult(uint64_t n, uint64_t *mult);
 
-/* The CRC of 0 to 1,024 bits, a byte each.
- * Refused: 1 (mode or kind not named), 4 (over 1,024 bits), 5 (a byte above 1). */
-uint32_t ion_crc(uint8_t mode, uint8_t kind, const uint8_t *bits, size_t bits_len, uint16_t *crc);
+/* The CRC of 0 to 1,024 bits, a byte each, in a layout. In a header it stands in the last 16 bits, the first one highest, over the bits
+ * before.
+ * Proved: layout 1 gives what a receiver without layouts gave. The same bits have the same CRC under no two of the 48 modes, kinds and
+ * layouts: a header with a good CRC in one layout has a bad one in every other.
+ * Refused: 1 (mode or kind not named), 12 (layout not from 1 to 8), 4 (over 1,024 bits), 5 (a byte above 1). */
+uint32_t ion_crc(uint8_t mode, uint8_t kind, uint8_t layout, const uint8_t *bits, size_t bits_len, uint16_t *crc);
 
-/* The symbol values of a header, slot by slot: n bits in, n values out.
+/* The symbol values of a header, slot by slot: n bits in, n values out; the same in every layout.
  * Refused: 1, 4 (a length is not n), 5 (a byte above 1). */
 uint32_t ion_header_values(uint8_t mode, uint8_t kind, const uint8_t *bits, size_t bits_len, uint8_t *values, size_t values_len);
 
@@ -95,7 +106,7 @@ uint32_t ion_interleave_sym(const uint8_t *symbols, size_t symbols_len, uint8_t 
 
 /* Reads a header. terms: n*260 floats. Work areas, zeros after an answer: scores, next and start of 16,384 floats, decisions of n*256
  * words. word: header bit j at place j from the lowest, zeros above the last. outcome: ION_SURE, ION_KEPT or ION_OPEN. pass: 1 to 3 for
- * Sure, else 0. score: what the search gives the word.
+ * Sure, else 0. score: what the search gives the word. The layout has no part in it: its CRC tells whether the word is of the layout in use.
  *
  * What is proved of an answer, and under which condition:
  * - Sure in pass 1, any accepted terms: the score is the word's own, added in f32 as the receiver adds it, and no other word, closed or
@@ -110,12 +121,14 @@ uint32_t ion_read_header(uint8_t mode, uint8_t kind, const float *terms, size_t 
                          float *next, size_t next_len, float *start, size_t start_len, uint64_t *decisions, size_t decisions_len,
                          uint64_t *word, uint8_t *outcome, uint8_t *pass, float *score);
 
-/* Metrics and soft bits of a burst of S = ceil(bits/5) data symbols. symbols: ION_BIT_FORM, anything else symbol form. window: one of
- * the mode's three, in samples of the baseband. terms: S*260. blanked: S counts of blanked audio samples, each over the 7*window samples
- * behind a symbol's window; more than half of them erase the symbol. work: S*32, zeros after an answer. metrics: S*32, each from -40 to 0,
- * relative to the symbol's greatest. soft: one float a bit, from -12 to 12, ln(p(bit is 0) / p(bit is 1)): above 0 the bit is rather 0.
- * Refused: 1, 2 (over 10,240 bits), 3 (window not of the mode), 4 (a length), 6 (a term), 7 (a count above 255*window). */
-uint32_t ion_soft_values(uint8_t mode, uint8_t kind, uint8_t symbols, uint32_t window, uint32_t bits, const float *terms,
+/* Metrics and soft bits of a burst of S = ceil(bits/5) data symbols in layout k. symbols: ION_BIT_FORM, anything else symbol form. window:
+ * one of the mode's three, in samples of the baseband. terms: S*260. blanked: S counts of blanked audio samples, each over the
+ * (6k+1)*window samples behind a symbol's window; more than half of them erase the symbol. work: S*32, zeros after an answer. metrics:
+ * S*32, each from -40 to 0, relative to the symbol's greatest. soft: one float a bit, from -12 to 12, ln(p(bit is 0) / p(bit is 1)): above
+ * 0 the bit is rather 0. Proved: layout 1 gives what a receiver without layouts gave.
+ * Refused: 1, 12 (layout not from 1 to 8), 2 (over 10,240 bits), 3 (window not of the mode), 4 (a length), 6 (a term), 7 (a count above
+ * 255*window, in every layout). */
+uint32_t ion_soft_values(uint8_t mode, uint8_t kind, uint8_t layout, uint8_t symbols, uint32_t window, uint32_t bits, const float *terms,
                          size_t terms_len, const uint32_t *blanked, size_t blanked_len, float *work, size_t work_len,
                          float *metrics, size_t metrics_len, float *soft, size_t soft_len);
 

@@ -90,7 +90,7 @@ fn soft(repeats: usize, n: usize, symbols: bool) -> Vec<(f64, f64)> {
         let terms: Vec<f32> = (0..260 * n).map(|j| noise(j) + if j % 263 == 7 { 12.0 } else { 0.0 }).collect();
         let theirs = rows(&terms);
         let (work, metrics, soft) = (vec![0.0; 32 * n], vec![0.0; 32 * n], vec![0.0; bits]);
-        let mut b = Soft { mode: 0, kind: 1, symbols: symbols as u8, window: 160, bits: bits as u32, terms, blanked: blanked.clone(), work, metrics, soft };
+        let mut b = Soft { mode: 0, kind: 1, layout: 1, symbols: symbols as u8, window: 160, bits: bits as u32, terms, blanked: blanked.clone(), work, metrics, soft };
         let ((ours, k), (theirs, r)) = by_turns(first, || b.values(), || soft_terms(MfskMode::R0, symbols, 64, bits, &theirs, &fractions));
         assert!(k == 0 && r.llrs == b.soft && r.metrics == b.metrics);
         (ours, theirs)

@@ -5,7 +5,7 @@ mod made;
 use ion::fec::conv::ConvCode;
 use ion::phy_mfsk::hook::{air, blanked_frac, code, decode_terms_told, soft_terms, windows};
 use inputs::{Dice, rows};
-use made::{Burst, DAMAGE, How, KINDS, MODES, made, write};
+use made::{Burst, DAMAGE, How, KINDS, MODES, made, write, write_older};
 use std::fmt::Write as _;
 use std::io::Write as _;
 use std::process::{Command, Stdio};
@@ -22,8 +22,8 @@ fn expected(c: &ConvCode, b: &Burst, soft: bool, metrics: bool) -> (u64, bool, S
     let (bits, score, (how, pass, _)) = decode_terms_told(c, mode, kind, &rows(&b.header_terms));
     let word = bits.iter().rev().fold(0, |w, &b| w << 1 | b as u64);
     let n = bits.len() - 16;
-    let good = air::crc16(&bits[..n], air::crc_start(1, mode, kind)) as u32 == air::read_bits(&bits[n..], 16);
-    let blanked: Vec<f32> = b.blanked.iter().map(|&c| blanked_frac(c, b.window as usize, 1)).collect();
+    let good = air::crc16(&bits[..n], air::crc_start(b.layout as usize, mode, kind)) as u32 == air::read_bits(&bits[n..], 16);
+    let blanked: Vec<f32> = b.blanked.iter().map(|&c| blanked_frac(c, b.window as usize, b.layout as usize)).collect();
     let out = soft_terms(mode, b.symbols, bits.len(), b.bits as usize, &rows(&b.data_terms), &blanked);
     let mut s = String::new();
     let outcome = [format!("Sure, pass {pass}"), "Kept".into(), "Open".into()][how as usize].clone();
@@ -67,12 +67,13 @@ fn shell(file: &[u8], command: &str) -> (String, String, Option<i32>) {
     (String::from_utf8_lossy(&out.stdout).into(), String::from_utf8_lossy(&out.stderr).into(), out.status.code())
 }
 
-/// A burst of every mode, kind, form and window by turns, over channels from good to hopeless.
+/// A burst of every mode, kind, form and window by turns, in any layout, over channels from good to hopeless.
 fn how(i: u64, d: &mut Dice) -> How {
     let mode = (i % 2) as u8;
     How {
         mode,
         kind: (i / 2 % 3) as u8,
+        layout: 1 + (i * 5 % 8) as u8,
         symbols: i / 6 % 2 == 1,
         window: windows(MODES[mode as usize])[(i / 12 % 3) as usize] as u32,
         bits: if i < 2 { 10_240 } else { [0, 1, 4, 5, 6, 10, 33, 64, 100, 320, 1000][d.below(11) as usize] },
@@ -94,23 +95,27 @@ fn main() {
     }
     let all: u64 = args.first().map_or(200, |a| a.parse().unwrap());
     let mut d = Dice(2);
-    let (mut differ, mut floats, mut sent, mut wrong_good, mut outcomes, mut bad) = (0, 0, 0, 0, [0; 3], 0);
+    let (mut differ, mut floats, mut sent, mut wrong_good, mut outcomes, mut bad, mut older, mut layouts) = (0, 0, 0, 0, [0; 3], 0, 0u64, [0; 8]);
     for i in 0..all {
         let h = how(i, &mut d);
         let b = made(i, &h);
         let words = ["", "soft", "metrics", "soft metrics"][(i % 4) as usize];
         let (word, good, want) = expected(&c, &b, words.contains("soft"), words.contains("metrics"));
-        let (out, err, status) = if i % 3 == 0 { run(&write(&b), words) } else { run_named(&write(&b), words, i % 3 == 1) };
+        // what is of layout 1 by turns in a file of either version
+        let file = if b.layout == 1 && i % 16 == 0 { write_older(&b) } else { write(&b) };
+        older += (file[4] == 0) as u64;
+        let (out, err, status) = if i % 3 == 0 { run(&file, words) } else { run_named(&file, words, i % 3 == 1) };
         sent += (word == b.word) as u64;
         wrong_good += (word != b.word && good) as u64;
         outcomes[["Sure", "Kept", "Open"].iter().position(|o| want.contains(o)).unwrap()] += 1;
         floats += want.matches('(').count();
+        layouts[b.layout as usize - 1] += 1;
         if (out.as_str(), err.as_str(), status) != (want.as_str(), "", Some(0)) {
             differ += 1;
             println!("differs: seed {i} {h:?} {words}: {status:?} {err}{}", out.lines().zip(want.lines()).find(|(a, b)| a != b).map_or(String::new(), |(a, b)| format!("{a}, the Rust {b}")));
         }
         let (what, number) = DAMAGE[(i % DAMAGE.len() as u64) as usize];
-        let mut file = write(&b);
+        let mut file = file;
         if made::damage(&mut file, what).is_err() {
             continue;
         }
@@ -140,6 +145,6 @@ fn main() {
             println!("{what}: {err}{out}");
         }
     }
-    println!("{all} bursts: {floats} floats; Sure, Kept, Open {outcomes:?}; {sent} words as sent, {wrong_good} others with a good CRC; {bad} damaged files; {differ} differ");
+    println!("{all} bursts, by layout {layouts:?}, {older} of them in files of version 0: {floats} floats; Sure, Kept, Open {outcomes:?}; {sent} words as sent, {wrong_good} others with a good CRC; {bad} damaged files; {differ} differ");
     std::process::exit((differ > 0) as i32);
 }

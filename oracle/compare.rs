@@ -65,9 +65,9 @@ fn mult(n: u64) -> u64 {
     told(k) + a
 }
 
-fn crc(mode: u8, kind: u8, bits: &[u8]) -> u64 {
+fn crc(mode: u8, kind: u8, layout: u8, bits: &[u8]) -> u64 {
     let mut value = 0;
-    let k = face::crc(mode, kind, bits, &mut value);
+    let k = face::crc(mode, kind, layout, bits, &mut value);
     told(k) + value as u64
 }
 
@@ -85,48 +85,62 @@ fn multipliers(wrong: &mut bool) {
 }
 
 fn crcs(wrong: &mut bool) {
-    let mut s = Section::new("CRC, every bit string to 16 bits, six starts");
+    let mut s = Section::new("CRC, every bit string to 16 bits, 48 starts");
+    let mut starts = Vec::new();
     for (m, mode) in MODES.iter().enumerate() {
         for (k, kind) in KINDS.iter().enumerate() {
-            let start = air::crc_start(1, *mode, *kind);
-            for len in 0..=16usize {
-                for word in 0..1u32 << len {
-                    let bits: Vec<u8> = (0..len).map(|i| (word >> i & 1) as u8).collect();
-                    s.pair(crc(m as u8, k as u8, &bits), air::crc16(&bits, start) as u64, || format!("mode {m} kind {k} bits {bits:?}"));
+            for layout in 1..=8 {
+                let start = air::crc_start(layout as usize, *mode, *kind);
+                starts.push(start);
+                for len in 0..=16usize {
+                    for word in 0..1u32 << len {
+                        let bits: Vec<u8> = (0..len).map(|i| (word >> i & 1) as u8).collect();
+                        s.pair(crc(m as u8, k as u8, layout, &bits), air::crc16(&bits, start) as u64, || format!("mode {m} kind {k} layout {layout} bits {bits:?}"));
+                    }
                 }
             }
         }
+    }
+    s.end(wrong);
+    let mut s = Section::new("CRC, no two of the 48 starts equal");
+    for (i, start) in starts.iter().enumerate() {
+        s.pair(starts.iter().filter(|x| *x == start).count() as u64, 1, || format!("start {i}"));
     }
     s.end(wrong);
 }
 
 /// Bad input: the first number that the papers' order gives, worked out here from their table.
 fn crc_refusals(wrong: &mut bool) {
-    let mut s = Section::new("CRC, refusals 1, 4, 5");
+    let mut s = Section::new("CRC, refusals 1, 12, 4, 5");
+    let layouts: Vec<u8> = (0..=10).chain([16, 128, 255]).collect();
     for mode in 0..=4u8 {
         for kind in 0..=4u8 {
-            for len in [0usize, 1, 1023, 1024, 1025, 4000] {
-                for bad in [None, Some((0usize, 2u8)), Some((len / 2, 255)), Some((len.wrapping_sub(1), 2))] {
-                    let mut bits = vec![1u8; len];
-                    let mut other = false;
-                    if let Some((at, byte)) = bad {
-                        if at < len {
-                            bits[at] = byte;
-                            other = true;
+            for &layout in &layouts {
+                for len in [0usize, 1, 1023, 1024, 1025, 4000] {
+                    for bad in [None, Some((0usize, 2u8)), Some((len / 2, 255)), Some((len.wrapping_sub(1), 2))] {
+                        let mut bits = vec![1u8; len];
+                        let mut other = false;
+                        if let Some((at, byte)) = bad {
+                            if at < len {
+                                bits[at] = byte;
+                                other = true;
+                            }
                         }
+                        let want = if mode > 1 || kind > 2 {
+                            REFUSED + 1
+                        } else if !(1..=8).contains(&layout) {
+                            REFUSED + 12
+                        } else if len > 1024 {
+                            REFUSED + 4
+                        } else if other {
+                            REFUSED + 5
+                        } else {
+                            air::crc16(&bits, air::crc_start(layout as usize, MODES[mode as usize], KINDS[kind as usize])) as u64
+                        };
+                        let before = bits.clone();
+                        s.pair(crc(mode, kind, layout, &bits), want, || format!("mode {mode} kind {kind} layout {layout} length {len} bad {bad:?}"));
+                        assert_eq!(before, bits);
                     }
-                    let want = if mode > 1 || kind > 2 {
-                        REFUSED + 1
-                    } else if len > 1024 {
-                        REFUSED + 4
-                    } else if other {
-                        REFUSED + 5
-                    } else {
-                        air::crc16(&bits, air::crc_start(1, MODES[mode as usize], KINDS[kind as usize])) as u64
-                    };
-                    let before = bits.clone();
-                    s.pair(crc(mode, kind, &bits), want, || format!("mode {mode} kind {kind} length {len} bad {bad:?}"));
-                    assert_eq!(before, bits);
                 }
             }
         }

@@ -2,7 +2,7 @@
 // A lent slice is two arguments, its first element and its length.
 unsafe extern "C" {
     fn ion_interleave_mult(n: u64, mult: *mut u64) -> u32;
-    fn ion_crc(mode: u8, kind: u8, bits: *const u8, bits_len: usize, crc: *mut u16) -> u32;
+    fn ion_crc(mode: u8, kind: u8, layout: u8, bits: *const u8, bits_len: usize, crc: *mut u16) -> u32;
     fn ion_header_values(mode: u8, kind: u8, bits: *const u8, bits_len: usize, values: *mut u8, values_len: usize) -> u32;
     fn ion_interleave(bits: *const u8, bits_len: usize, slots: *mut u8, slots_len: usize) -> u32;
     fn ion_interleave_sym(symbols: *const u8, symbols_len: usize, values: *mut u8, values_len: usize) -> u32;
@@ -11,7 +11,7 @@ unsafe extern "C" {
         start_len: usize, decisions: *mut u64, decisions_len: usize, word: *mut u64, outcome: *mut u8, pass: *mut u8, score: *mut f32,
     ) -> u32;
     fn ion_soft_values(
-        mode: u8, kind: u8, symbols: u8, window: u32, bits: u32, terms: *const f32, terms_len: usize, blanked: *const u32, blanked_len: usize,
+        mode: u8, kind: u8, layout: u8, symbols: u8, window: u32, bits: u32, terms: *const f32, terms_len: usize, blanked: *const u32, blanked_len: usize,
         work: *mut f32, work_len: usize, metrics: *mut f32, metrics_len: usize, soft: *mut f32, soft_len: usize,
     ) -> u32;
     fn ion_fit_drift(mode: u8, places: *const u32, places_len: usize, timings: *const f64, timings_len: usize, drift: *mut f64) -> u32;
@@ -25,8 +25,8 @@ pub fn interleave_mult(n: u64, mult: &mut u64) -> u32 {
     unsafe { ion_interleave_mult(n, mult) }
 }
 
-pub fn crc(mode: u8, kind: u8, bits: &[u8], crc: &mut u16) -> u32 {
-    unsafe { ion_crc(mode, kind, bits.as_ptr(), bits.len(), crc) }
+pub fn crc(mode: u8, kind: u8, layout: u8, bits: &[u8], crc: &mut u16) -> u32 {
+    unsafe { ion_crc(mode, kind, layout, bits.as_ptr(), bits.len(), crc) }
 }
 
 pub fn header_values(mode: u8, kind: u8, bits: &[u8], values: &mut [u8]) -> u32 {
@@ -72,6 +72,7 @@ impl Header {
 pub struct Soft {
     pub mode: u8,
     pub kind: u8,
+    pub layout: u8,
     pub symbols: u8,
     pub window: u32,
     pub bits: u32,
@@ -86,7 +87,8 @@ impl Soft {
     pub fn values(&mut self) -> u32 {
         unsafe {
             ion_soft_values(
-                self.mode, self.kind, self.symbols, self.window, self.bits, self.terms.as_ptr(), self.terms.len(), self.blanked.as_ptr(), self.blanked.len(),
+                self.mode, self.kind, self.layout, self.symbols, self.window, self.bits, self.terms.as_ptr(), self.terms.len(), self.blanked.as_ptr(),
+                self.blanked.len(),
                 self.work.as_mut_ptr(), self.work.len(), self.metrics.as_mut_ptr(), self.metrics.len(), self.soft.as_mut_ptr(), self.soft.len(),
             )
         }

@@ -110,9 +110,9 @@ pub fn fill_terms(terms: &mut [f32], style: u64, mut word: impl FnMut() -> u64) 
     }
 }
 
-/// Counts: none, at the limit, one above it, in their whole range, or a mix.
-pub fn fill_counts(blanked: &mut [u32], window: u32, style: u64, mut word: impl FnMut() -> u64) {
-    let half = 7 * window / 2;
+/// Counts: none, at the limit of a layout, one above it, in their whole range, or a mix.
+pub fn fill_counts(blanked: &mut [u32], layout: u8, window: u32, style: u64, mut word: impl FnMut() -> u64) {
+    let half = (6 * layout as u32 + 1) * window / 2;
     for c in blanked {
         *c = match style % 5 {
             0 => 0,

@@ -12,12 +12,16 @@ const RATE: f64 = 8000.0;
 /// Places of an energy row, and bins beside the grid on either side.
 const PLACES: usize = 52;
 const BESIDE: i32 = 2;
-/// Audio samples behind each baseband sample's blanked count.
-const SPAN: u8 = 7;
+
+/// Audio samples behind each baseband sample's blanked count, which is one of 6k in layout k.
+fn span_of(layout: u8) -> u8 {
+    6 * layout + 1
+}
 
 pub struct Burst {
     pub mode: u8,
     pub kind: u8,
+    pub layout: u8,
     pub symbols: bool,
     pub window: u32,
     pub bits: u32,
@@ -34,6 +38,10 @@ pub struct Burst {
 pub struct How {
     pub mode: u8,
     pub kind: u8,
+    /// The layout k, 1 to 8: every duration k times as long, every frequency a k-th. The receiver takes one of 6k audio samples and
+    /// sees the same waveform in its own samples, over a channel whose Doppler spread is k times as wide there, whose delay is a
+    /// k-th and whose noise has a k-th of the band.
+    pub layout: u8,
     pub symbols: bool,
     /// One of the mode's three, or 0 for the one that the mode's tones are spaced by.
     pub window: u32,
@@ -52,7 +60,7 @@ pub struct How {
 
 impl Default for How {
     fn default() -> Self {
-        How { mode: 0, kind: 1, symbols: false, window: 0, bits: 100, snr: 6.0, doppler: 1.0, delay: 1.0, carrier: None, blanked: 0.0 }
+        How { mode: 0, kind: 1, layout: 1, symbols: false, window: 0, bits: 100, snr: 6.0, doppler: 1.0, delay: 1.0, carrier: None, blanked: 0.0 }
     }
 }
 
@@ -106,9 +114,10 @@ fn sent_samples(tones: &[(f64, usize)]) -> Vec<Complex> {
 
 /// Fading, a carrier and noise.
 fn through(z: &[Complex], fmt: Fmt, how: &How, d: &mut Dice) -> Vec<Complex> {
-    let lag = (how.delay / 1000.0 * RATE).round().max(0.0) as usize;
-    let paths = [Path::new(how.doppler, d), Path::new(how.doppler, d)];
-    let noise = (RATE / 3000.0 / 10f64.powf(how.snr / 10.0) / 2.0).sqrt();
+    let k = how.layout as f64;
+    let lag = (how.delay / 1000.0 * RATE / k).round().max(0.0) as usize;
+    let paths = [Path::new(how.doppler * k, d), Path::new(how.doppler * k, d)];
+    let noise = (RATE / k / 3000.0 / 10f64.powf(how.snr / 10.0) / 2.0).sqrt();
     let (keyed, bin) = (d.below(z.len() as u64) as usize, d.below(fmt.nbins as u64) as i32);
     let (hz, level) = (fmt.bin_hz(bin) as f64 + 8.0 * d.unit() - 4.0, how.carrier.map_or(0.0, |db| 10f64.powf(db / 20.0)));
     let mut gains = [Complex(1.0, 0.0), Complex::default()];
@@ -146,14 +155,14 @@ impl Ear {
 }
 
 /// In some of the data symbols the blanker zeroes a run of samples; the count behind each sample there is the whole span.
-fn blank(z: &mut [Complex], from: usize, sym: usize, share: f64, d: &mut Dice) -> Vec<u8> {
+fn blank(z: &mut [Complex], from: usize, sym: usize, share: f64, span: u8, d: &mut Dice) -> Vec<u8> {
     let mut counts = vec![0u8; z.len()];
     for start in (from..z.len()).step_by(sym) {
         if d.unit() < share {
             let n = 1 + d.below(sym as u64) as usize;
             let first = start + d.below((sym - n + 1) as u64) as usize;
             z[first..first + n].fill(Complex::default());
-            counts[first..first + n].fill(SPAN);
+            counts[first..first + n].fill(span);
         }
     }
     counts
@@ -210,7 +219,7 @@ pub fn made_by(sender: &Sender, seed: u64, how: &How) -> Burst {
     // what is sent
     let (user, extra) = (d.word() as u16, d.word() as u16);
     let field = how.bits as usize | if how.symbols { air::SYM_FLAG } else { 0 };
-    let info = air::header_bits(1, mode, kind, user, extra, field);
+    let info = air::header_bits(how.layout as usize, mode, kind, user, extra, field);
     let sent: Vec<u8> = (0..how.bits).map(|_| (d.word() >> 63) as u8).collect();
     let header = (sender.header)(how.mode, how.kind, &info);
     let data = sender.data(how.mode, how.symbols, &sent);
@@ -223,7 +232,7 @@ pub fn made_by(sender: &Sender, seed: u64, how: &How) -> Burst {
     }
     let mut z = through(&sent_samples(&tones), fmt, how, &mut d);
     let begin = first.sym * places.len();
-    let counts = blank(&mut z, begin + header.len() * fmt.sym, fmt.sym, how.blanked, &mut d);
+    let counts = blank(&mut z, begin + header.len() * fmt.sym, fmt.sym, how.blanked, span_of(how.layout), &mut d);
     // heard: each window ends where its symbol does
     let early = windows(MfskMode::R0)[number];
     let ear = Ear::new(first, early);
@@ -235,6 +244,7 @@ pub fn made_by(sender: &Sender, seed: u64, how: &How) -> Burst {
     Burst {
         mode: how.mode,
         kind: how.kind,
+        layout: how.layout,
         symbols: how.symbols,
         window: window as u32,
         bits: how.bits,
@@ -249,9 +259,20 @@ pub fn made_by(sender: &Sender, seed: u64, how: &How) -> Burst {
 /// The file's first 20 bytes.
 pub const HEAD: usize = 20;
 
+/// A file of version 1.
 pub fn write(b: &Burst) -> Vec<u8> {
+    write_as(b, 1)
+}
+
+/// A file of version 0, which has no layout: of a burst of layout 1 only.
+pub fn write_older(b: &Burst) -> Vec<u8> {
+    assert_eq!(b.layout, 1);
+    write_as(b, 0)
+}
+
+fn write_as(b: &Burst, version: u8) -> Vec<u8> {
     let mut out = b"IONB".to_vec();
-    out.extend([0, b.mode, b.kind, b.symbols as u8, 0, 0, 0, 0]);
+    out.extend([version, b.mode, b.kind, b.symbols as u8, b.layout * version, 0, 0, 0]);
     out.extend(b.window.to_le_bytes());
     out.extend(b.bits.to_le_bytes());
     out.extend(b.header_terms.iter().chain(&b.data_terms).flat_map(|t| t.to_le_bytes()));
@@ -264,12 +285,13 @@ pub fn read(s: &[u8]) -> Result<Burst, String> {
     if s.len() < HEAD || &s[..4] != b"IONB" {
         return Err("does not begin as a burst".into());
     }
-    if s[4] != 0 {
-        return Err(format!("version {}", s[4]));
+    let (version, layout) = (s[4], if s[4] == 0 { 1 } else { s[8] });
+    if version > 1 {
+        return Err(format!("version {version}"));
     }
     let word = |at: usize| u32::from_le_bytes(s[at..at + 4].try_into().unwrap());
     let (mode, kind, form, window, bits) = (s[5], s[6], s[7], word(12), word(16));
-    if mode > 1 || kind > 2 || form > 1 || s[8..12] != [0; 4] || bits > 10_240 {
+    if mode > 1 || kind > 2 || form > 1 || s[9..12] != [0; 3] || version == 0 && s[8] != 0 || bits > 10_240 {
         return Err("mode, kind, form, the zeros or the bit count".into());
     }
     let (n, m) = (260 * air::header_info_bits(KINDS[kind as usize]), bits.div_ceil(5) as usize);
@@ -280,6 +302,7 @@ pub fn read(s: &[u8]) -> Result<Burst, String> {
     Ok(Burst {
         mode,
         kind,
+        layout,
         symbols: form == 1,
         window,
         bits,
@@ -291,10 +314,10 @@ pub fn read(s: &[u8]) -> Result<Burst, String> {
     })
 }
 
-/// What can be done to a file, and the refusal's number in document 01, or 0 where the layout itself is broken.
-pub const DAMAGE: [(&str, u8); 13] = [
+/// What can be done to a file, and the refusal's number in the papers, or 0 where the file's own form is broken.
+pub const DAMAGE: [(&str, u8); 15] = [
     ("nan", 6), ("large", 6), ("cut", 0), ("long", 0), ("magic", 0), ("version", 0), ("mode", 1), ("kind", 1), ("form", 0), ("zeros", 0),
-    ("window", 3), ("bits", 2), ("count", 7),
+    ("window", 3), ("bits", 2), ("count", 7), ("layout", 12), ("older", 0),
 ];
 
 /// Spoils a good file in the way that the word names.
@@ -310,7 +333,10 @@ pub fn damage(file: &mut Vec<u8>, what: &str) -> Result<(), String> {
         "cut" => file.truncate(n - 1),
         "long" => file.push(0),
         "magic" => file[0] = b'i',
-        "version" => file[4] = 1,
+        "version" => file[4] = 2,
+        // a layout in a file of version 1, or in one of version 0, which has none
+        "layout" => (file[4], file[8]) = (1, [0, 9, 255][n % 3]),
+        "older" => (file[4], file[8]) = (0, 1),
         "mode" => file[5] = 2,
         "kind" => file[6] = 3,
         "form" => file[7] = 2,

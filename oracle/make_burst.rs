@@ -5,7 +5,7 @@ mod face;
 mod inputs;
 mod made;
 use ion::phy_mfsk::hook::{air, windows};
-use made::{How, KINDS, MODES, RUST, Sender, made_by, write};
+use made::{How, KINDS, MODES, RUST, Sender, made_by, write, write_older};
 use std::io::Write;
 
 /// The list of so many places that an entry fills.
@@ -27,11 +27,13 @@ const OURS: Sender = Sender {
     symbols: |_, symbols| filled(symbols.len(), |values| face::interleave_sym(symbols, values)),
 };
 
-const USE: &str = "make_burst [--seed N] [--mode 0|1] [--kind 0|1|2] [--form 0|1] [--window N] [--bits N]
+const USE: &str = "make_burst [--seed N] [--mode 0|1] [--kind 0|1|2] [--layout K] [--form 0|1] [--window N] [--bits N]
            [--snr DB] [--doppler HZ] [--delay MS] [--carrier DB] [--blanked SHARE] [--damage WHAT] [--sender ours|rust]
-mode 0 R0, 1 R1; kind 0 HeaderOnly, 1 Data, 2 Cue; form 0 bits, 1 symbols; window one of the mode's three;
+           [--version 0|1]
+mode 0 R0, 1 R1; kind 0 HeaderOnly, 1 Data, 2 Cue; layout 1 (the full band) to 8; form 0 bits, 1 symbols;
+window one of the mode's three; version of the file, 1 or, in layout 1 only, 0;
 snr over noise in 3,000 Hz; doppler 0: one steady path; carrier: on one bin, dB over the signal; blanked: 0 to 1;
-damage: nan, large, cut, long, magic, version, mode, kind, form, zeros, window, bits, count;
+damage: nan, large, cut, long, magic, version, mode, kind, form, zeros, window, bits, count, layout, older;
 sender: ours (the proved library) or the Rust's functions; they differ in slots that no data bit reaches (docs/DIFFERENCES.md)";
 
 fn stop(why: &str) -> ! {
@@ -43,8 +45,8 @@ fn number<T: std::str::FromStr>(name: &str, text: Option<String>) -> T {
     text.and_then(|t| t.parse().ok()).unwrap_or_else(|| stop(&format!("{name} needs a number")))
 }
 
-fn asked() -> (u64, How, Option<String>, Sender) {
-    let (mut seed, mut how, mut damage, mut sender) = (1, How::default(), None, OURS);
+fn asked() -> (u64, How, Option<String>, Sender, u8) {
+    let (mut seed, mut how, mut damage, mut sender, mut version) = (1, How::default(), None, OURS, 1);
     let mut args = std::env::args().skip(1);
     while let Some(name) = args.next() {
         let mut next = || args.next();
@@ -52,6 +54,8 @@ fn asked() -> (u64, How, Option<String>, Sender) {
             "--seed" => seed = number(&name, next()),
             "--mode" => how.mode = number(&name, next()),
             "--kind" => how.kind = number(&name, next()),
+            "--layout" => how.layout = number(&name, next()),
+            "--version" => version = number(&name, next()),
             "--form" => how.symbols = number::<u8>(&name, next()) == 1,
             "--window" => how.window = number(&name, next()),
             "--bits" => how.bits = number(&name, next()),
@@ -75,8 +79,11 @@ fn asked() -> (u64, How, Option<String>, Sender) {
             _ => stop(&format!("{name} is not known")),
         }
     }
-    if how.mode > 1 || how.kind > 2 || how.bits > 10_240 {
-        stop("mode, kind or bits out of range");
+    if how.mode > 1 || how.kind > 2 || !(1..=8).contains(&how.layout) || how.bits > 10_240 {
+        stop("mode, kind, layout or bits out of range");
+    }
+    if version > 1 || version == 0 && how.layout != 1 {
+        stop("the version is 1 or, in layout 1, 0");
     }
     for (name, x, most) in [
         ("--snr", how.snr.abs(), 200.0),
@@ -92,19 +99,22 @@ fn asked() -> (u64, How, Option<String>, Sender) {
     if how.window != 0 && !windows(MODES[how.mode as usize]).contains(&(how.window as usize)) {
         stop("the window is not one of the mode's");
     }
-    (seed, how, damage, sender)
+    (seed, how, damage, sender, version)
 }
 
 fn main() {
-    let (seed, how, damage, sender) = asked();
+    let (seed, how, damage, sender, version) = asked();
     let b = made_by(&sender, seed, &how);
     let n = air::header_info_bits(KINDS[how.kind as usize]);
-    eprintln!("sent: header {:0w$x}, {n} bits with a good CRC; {} data bits in {} symbols, window {}", b.word, b.bits, b.blanked.len(), b.window, w = n / 4);
+    eprintln!(
+        "sent: header {:0w$x}, {n} bits with a good CRC in layout {}; {} data bits in {} symbols, window {}",
+        b.word, b.layout, b.bits, b.blanked.len(), b.window, w = n / 4
+    );
     if b.bits > 0 {
         let bits: String = b.sent.iter().take(60).map(|b| (b'0' + b) as char).collect();
         eprintln!("data: {bits}{}", if b.bits > 60 { ".." } else { "" });
     }
-    let mut out = write(&b);
+    let mut out = if version == 0 { write_older(&b) } else { write(&b) };
     if let Some(what) = damage {
         made::damage(&mut out, &what).unwrap_or_else(|why| stop(&why));
     }

@@ -1,6 +1,6 @@
 // Writes recorded answers of the Rust to standard output, 17 bytes a record: for crates/vectors/stdin, or with the word
 // `series` fits and series of the tracker, for crates/series/stdin.
-use ion::phy_mfsk::hook::{Fmt, Kind, MfskMode, Terms, Tracker, air, code, decode_terms, decode_terms_told, fit_drift, soft_terms, windows};
+use ion::phy_mfsk::hook::{Fmt, Kind, MfskMode, Terms, Tracker, air, code, decode_terms, decode_terms_told, blanked_frac, fit_drift, soft_terms, windows};
 use std::io::Write;
 
 /// The terms that crates/vectors works out from a seed: whole numbers from -2 to 2, with the values of a header raised
@@ -16,12 +16,12 @@ fn terms(mode: MfskMode, kind: Kind, seed: u64) -> Vec<Terms> {
     t.chunks(260).map(|s| std::array::from_fn(|r| std::array::from_fn(|p| s[52 * r + p]))).collect()
 }
 
-/// The digest that crates/vectors makes of a burst's metrics and soft bits, its terms and counts worked out from a seed.
-fn burst(mode: MfskMode, kind: Kind, symbols: bool, window: usize, bits: usize, seed: u64) -> u64 {
+/// The digest that crates/vectors makes of a burst's metrics and soft bits, its terms and counts worked out from a seed, in layout k.
+fn burst(mode: MfskMode, kind: Kind, k: usize, symbols: bool, window: usize, bits: usize, seed: u64) -> u64 {
     let n = bits.div_ceil(5);
     let flat: Vec<f32> = (0..260 * n as u64).map(|i| ((air::mix64(seed ^ i << 32) % 401) as f32 - 200.0) / 16.0).collect();
     let terms: Vec<Terms> = flat.chunks(260).map(|s| std::array::from_fn(|r| std::array::from_fn(|p| s[52 * r + p]))).collect();
-    let blanked: Vec<f32> = (0..n as u64).map(|i| ((air::mix64(seed ^ i << 48) % 8) as usize * window) as f32 / (7 * window) as f32).collect();
+    let blanked: Vec<f32> = (0..n as u64).map(|i| blanked_frac((air::mix64(seed ^ i << 48) % (6 * k as u64 + 2)) as u32 * window as u32, window, k)).collect();
     let out = soft_terms(mode, symbols, air::header_info_bits(kind), bits, &terms, &blanked);
     out.metrics.iter().chain(&out.llrs).fold(seed, |h, x| air::mix64(h ^ x.to_bits() as u64))
 }
@@ -172,11 +172,12 @@ fn vectors(put: Put) {
                 for (i, bits) in [0, 1, 2, 5, 6, 31, 64, 320].into_iter().enumerate() {
                     let (number, seed) = (i % 3, 1000 * m as u64 + 100 * k as u64 + 10 * form + i as u64);
                     let asked = seed | (bits as u64) << 32 | (number as u64) << 48;
-                    put((128 + form + 2 * (k as u64 + 3 * m as u64)) as u8, asked, burst(mode, kind, form == 1, windows(mode)[number], bits, seed));
+                    put((128 + form + 2 * (k as u64 + 3 * m as u64)) as u8, asked, burst(mode, kind, 1, form == 1, windows(mode)[number], bits, seed));
                 }
             }
         }
     }
+    layouts(put);
     // how many, places too many, the first one instead
     let bits = [0, 1, 2, 3, 4, 5, 6, 7, 8, 9, 10, 31, 64, 100, 320, 1000, 10_235, 10_238, 10_240].map(|n| (n, 0, 0));
     let refused = [(10_241, 0, 0), (10_241, 1, 2), (5, 1, 0), (5, 1, 2), (5, 0, 2), (5, 0, 255)];
@@ -199,6 +200,35 @@ fn vectors(put: Put) {
     }
     for z in [0, 1, 1234567, 1 << 63, u64::MAX] {
         put(7, z, air::mix64(z));
+    }
+}
+
+/// Document 02, #102: CRCs and bursts in every layout, and layouts that are refused.
+fn layouts(put: Put) {
+    for (m, mode) in [MfskMode::R0, MfskMode::R1].into_iter().enumerate() {
+        for (k, kind) in [Kind::HeaderOnly, Kind::Data, Kind::Cue].into_iter().enumerate() {
+            for layout in 1..=8u64 {
+                let turn = 24 * m as u64 + 8 * k as u64 + layout;
+                for len in [0, 1 + turn % 32] {
+                    let word = air::mix64(7000 + turn) >> 32 & ((1 << len) - 1);
+                    let bits: Vec<u8> = (0..len).map(|j| (word >> j & 1) as u8).collect();
+                    let asked = m as u64 | (k as u64) << 8 | len << 16 | layout << 24 | word << 32;
+                    put(14, asked, air::crc16(&bits, air::crc_start(layout as usize, mode, kind)) as u64);
+                }
+                for form in 0..2u64 {
+                    let (number, bits, seed) = (turn % 3, [5, 31, 64, 320][((turn + form) % 4) as usize], 8000 + 2 * turn + form);
+                    let asked = seed | bits << 32 | number << 48 | layout << 56;
+                    let answer = burst(mode, kind, layout as usize, form == 1, windows(mode)[number as usize], bits as usize, seed);
+                    put((140 + form + 2 * (k as u64 + 3 * m as u64)) as u8, asked, answer);
+                }
+            }
+        }
+    }
+    for layout in [0, 9, 255u64] {
+        put(14, 1 | 1 << 8 | 3 << 16 | layout << 24, REFUSED + 12);
+        put(140, 8999 | 5 << 32 | layout << 56, REFUSED + 12);
+        // no mode 2, and 1 comes before 12
+        put(14, 2 | 3 << 16 | layout << 24, REFUSED + 1);
     }
 }
 

@@ -17,10 +17,10 @@ fn patterns(list: &[f32]) -> Vec<u32> {
 /// What is lent: the inputs, and three lists that start with other bits, NaNs with payloads among them.
 impl Lent {
     /// A burst with lists of its lengths; terms and counts to be filled.
-    fn new(mode: u8, kind: u8, form: u8, window: u32, bits: u32, r: &mut Random) -> Self {
+    fn new(mode: u8, kind: u8, layout: u8, form: u8, window: u32, bits: u32, r: &mut Random) -> Self {
         let n = bits.div_ceil(5) as usize;
         Lent {
-            mode, kind, symbols: form, window, bits, terms: vec![0.0; 260 * n], blanked: vec![0; n],
+            mode, kind, layout, symbols: form, window, bits, terms: vec![0.0; 260 * n], blanked: vec![0; n],
             work: dirty(32 * n, || r.next()), metrics: dirty(32 * n, || r.next()), soft: dirty(bits as usize, || r.next()),
         }
     }
@@ -31,8 +31,8 @@ impl Lent {
         answer
     }
     fn say(&self) -> String {
-        let Lent { mode, kind, symbols: form, window, bits, .. } = self;
-        format!("mode {mode} kind {kind} form {form} window {window} bits {bits} counts {:?} first terms {:?}", &self.blanked[..self.blanked.len().min(4)], &self.terms[..self.terms.len().min(4)])
+        let Lent { mode, kind, layout, symbols: form, window, bits, .. } = self;
+        format!("mode {mode} kind {kind} layout {layout} form {form} window {window} bits {bits} counts {:?} first terms {:?}", &self.blanked[..self.blanked.len().min(4)], &self.terms[..self.terms.len().min(4)])
     }
 }
 
@@ -45,6 +45,10 @@ impl Random {
     fn below(&mut self, n: u64) -> u64 {
         self.next() % n
     }
+    /// A layout, 1 to 8.
+    fn layout(&mut self) -> u8 {
+        1 + self.below(8) as u8
+    }
 }
 
 fn fill_terms(b: &mut Lent, style: u64, r: &mut Random) {
@@ -52,13 +56,13 @@ fn fill_terms(b: &mut Lent, style: u64, r: &mut Random) {
 }
 
 fn fill_counts(b: &mut Lent, style: u64, r: &mut Random) {
-    inputs::fill_counts(&mut b.blanked, b.window, style, || r.next())
+    inputs::fill_counts(&mut b.blanked, b.layout, b.window, style, || r.next())
 }
 
 /// One burst on both sides: the answer, and how many metrics, soft bits and places of the work area differ.
 fn burst(s: &mut Section, floats: &mut u64, b: &mut Lent) {
     let terms = rows(&b.terms);
-    let blanked: Vec<f32> = b.blanked.iter().map(|&c| blanked_frac(c, b.window as usize, 1)).collect();
+    let blanked: Vec<f32> = b.blanked.iter().map(|&c| blanked_frac(c, b.window as usize, b.layout as usize)).collect();
     let hsyms = air::header_info_bits(KINDS[b.kind as usize]);
     let want = soft_terms(MODES[b.mode as usize], b.symbols == 1, hsyms, b.bits as usize, &terms, &blanked);
     let answer = b.call();
@@ -78,13 +82,14 @@ fn burst(s: &mut Section, floats: &mut u64, b: &mut Lent) {
 fn bursts(wrong: &mut bool) {
     let mut r = Random(7);
     let mut floats = 0;
-    let mut s = Section::new("soft values, 0 to 70 bits, every mode, kind, form and window (five pairs a burst)");
+    let mut s = Section::new("soft values, 0 to 70 bits, every mode, kind, form and window, every layout by turns (five pairs a burst)");
+    let mut layouts = (1..=8).cycle();
     for bits in 0..=70 {
         for (m, mode) in MODES.into_iter().enumerate() {
             for window in windows(mode) {
                 for kind in 0..3 {
                     for form in 0..2 {
-                        let mut b = Lent::new(m as u8, kind, form, window as u32, bits, &mut r);
+                        let mut b = Lent::new(m as u8, kind, layouts.next().unwrap(), form, window as u32, bits, &mut r);
                         let style = r.next();
                         fill_terms(&mut b, style, &mut r);
                         fill_counts(&mut b, style / 10, &mut r);
@@ -100,7 +105,8 @@ fn bursts(wrong: &mut bool) {
         let m = i as usize % 2;
         let bits = if i < 24 { 10_235 + (i / 4) as u32 } else { r.below(10_241) as u32 };
         let window = windows(MODES[m])[r.below(3) as usize] as u32;
-        let mut b = Lent::new(m as u8, r.below(3) as u8, (i / 2 % 2) as u8, window, bits, &mut r);
+        let (kind, layout) = (r.below(3) as u8, r.layout());
+        let mut b = Lent::new(m as u8, kind, layout, (i / 2 % 2) as u8, window, bits, &mut r);
         fill_terms(&mut b, i / 4, &mut r);
         let style = r.next();
         fill_counts(&mut b, style, &mut r);
@@ -115,6 +121,8 @@ fn table(b: &Lent) -> u64 {
     let n = (b.bits as u64).div_ceil(5) as usize;
     if b.mode > 1 || b.kind > 2 {
         REFUSED + 1
+    } else if !(1..=8).contains(&b.layout) {
+        REFUSED + 12
     } else if b.bits > 10_240 {
         REFUSED + 2
     } else if !windows(MODES[b.mode as usize]).contains(&(b.window as usize)) {
@@ -132,19 +140,21 @@ fn table(b: &Lent) -> u64 {
 
 fn refusals(wrong: &mut bool) {
     let mut r = Random(11);
-    let mut s = Section::new("soft values, refusals 1, 2, 3, 4, 6, 7 and untouched lists, 60,000 calls");
-    let mut seen = [0u64; 8];
+    let mut s = Section::new("soft values, refusals 1, 12, 2, 3, 4, 6, 7 and untouched lists, 60,000 calls");
+    let mut seen = [0u64; 13];
     for i in 0..60_000u64 {
         let window = windows(MODES[(i % 2) as usize])[r.below(3) as usize] as u32;
-        let mut b = Lent::new((i % 2) as u8, r.below(3) as u8, r.below(2) as u8, window, r.below(41) as u32, &mut r);
+        let (kind, layout, form, bits) = (r.below(3) as u8, r.layout(), r.below(2) as u8, r.below(41) as u32);
+        let mut b = Lent::new((i % 2) as u8, kind, layout, form, window, bits, &mut r);
         let style = r.next();
         fill_terms(&mut b, style, &mut r);
         fill_counts(&mut b, style / 10, &mut r);
         for _ in 0..r.below(3) {
             let at = r.next() as usize;
-            match r.below(12) {
+            match r.below(13) {
                 0 => b.mode = [2, 3, 255][at % 3],
                 1 => b.kind = [3, 4, 255][at % 3],
+                12 => b.layout = [0, 9, 10, 16, 128, 255][at % 6],
                 2 => b.bits = [10_241, 10_245, u32::MAX, u32::MAX - 4, 1 << 31][at % 5],
                 3 => b.window = [0, 159, 161, 80, 160, u32::MAX, 0x1_0000_00A0u64 as u32][at % 7],
                 4 => b.terms.resize(at % 2000, 0.5),
@@ -176,28 +186,36 @@ fn refusals(wrong: &mut bool) {
         }
     }
     s.end(wrong);
-    println!("  accepted {}, refused by 1, 2, 3, 4, 6, 7: {:?}", seen[0], [seen[1], seen[2], seen[3], seen[4], seen[6], seen[7]]);
+    println!("  accepted {}, refused by 1, 12, 2, 3, 4, 6, 7: {:?}", seen[0], [1, 12, 2, 3, 4, 6, 7].map(|k: usize| seen[k]));
 }
 
 fn named(wrong: &mut bool) {
     let mut r = Random(13);
     let mut s = Section::new("soft values, the named tests");
-    // one erased symbol, 2 bits: [0.0, -0.0] in bit form, [0.0, 0.0] in symbol form; 560 kept, 561 erased
+    // one erased symbol, 2 bits: [0.0, -0.0] in bit form, [0.0, 0.0] in symbol form; 560 kept, 561 erased, in layout 8 3,920 and 3,921
     for (form, second) in [(0, -0.0f32), (1, 0.0)] {
-        let mut b = Lent::new(0, 0, form, 160, 2, &mut r);
-        fill_terms(&mut b, 0, &mut r);
-        b.blanked[0] = 561;
-        s.pair(b.call(), 0, || b.say());
-        s.pair(b.soft[0].to_bits() as u64, 0, || b.say());
-        s.pair(b.soft[1].to_bits() as u64, second.to_bits() as u64, || b.say());
-        let mut kept = b.clone();
-        kept.blanked[0] = 560;
-        s.pair(kept.call(), 0, || kept.say());
-        s.pair((kept.soft == [0.0, 0.0]) as u64, 0, || kept.say());
+        for (layout, limit) in [(1, 560), (8, 3_920)] {
+            let mut b = Lent::new(0, 0, layout, form, 160, 2, &mut r);
+            fill_terms(&mut b, 0, &mut r);
+            b.blanked[0] = limit + 1;
+            s.pair(b.call(), 0, || b.say());
+            s.pair(b.soft[0].to_bits() as u64, 0, || b.say());
+            s.pair(b.soft[1].to_bits() as u64, second.to_bits() as u64, || b.say());
+            let mut kept = b.clone();
+            kept.blanked[0] = limit;
+            s.pair(kept.call(), 0, || kept.say());
+            s.pair((kept.soft == [0.0, 0.0]) as u64, 0, || kept.say());
+        }
+    }
+    // 12 straight after 1, before 2
+    for (mode, layout, want) in [(0, 9, 12), (0, 0, 12), (2, 9, 1), (0, 8, 2)] {
+        let mut b = Lent::new(mode, 1, layout, 0, 160, 0, &mut r);
+        b.bits = 10_241;
+        s.pair(b.call(), REFUSED + want, || b.say());
     }
     // 0 bits
     for form in 0..2 {
-        let mut b = Lent::new(1, 1, form, 112, 0, &mut r);
+        let mut b = Lent::new(1, 1, 1, form, 112, 0, &mut r);
         s.pair(b.call(), 0, || b.say());
     }
     // exp just below -16 and at it
@@ -206,18 +224,45 @@ fn named(wrong: &mut bool) {
     s.pair((unsafe { probe_exp(-16.0) } > 0.0) as u64, 1, || "exp -16".into());
     // two inputs that differ only in erased symbols' terms
     for i in 0..200u64 {
-        let mut b = Lent::new((i % 2) as u8, 1, (i / 2 % 2) as u8, 112 * (2 - i as u32 % 2), 1 + r.below(200) as u32, &mut r);
+        let (layout, bits) = (r.layout(), 1 + r.below(200) as u32);
+        let mut b = Lent::new((i % 2) as u8, 1, layout, (i / 2 % 2) as u8, 112 * (2 - i as u32 % 2), bits, &mut r);
         fill_terms(&mut b, i, &mut r);
         fill_counts(&mut b, 4, &mut r);
         let mut other = b.clone();
         for (i, t) in other.terms.iter_mut().enumerate() {
-            if 2 * b.blanked[i / 260] > 7 * b.window {
+            if 2 * b.blanked[i / 260] > (6 * b.layout as u32 + 1) * b.window {
                 *t = (r.below(2_000_001) as f32) - 1_000_000.0;
             }
         }
         s.pair(b.call(), other.call(), || b.say());
         let same = patterns(&b.soft) == patterns(&other.soft) && patterns(&b.metrics) == patterns(&other.metrics) && patterns(&b.work) == patterns(&other.work);
         s.pair(same as u64, 1, || b.say());
+    }
+    s.end(wrong);
+}
+
+/// Every layout, window and count to 255 windows: whether a symbol is erased, seen in its metrics, against the Rust's quotient. A kept
+/// symbol has one value above the others, an erased one none.
+fn erasures(wrong: &mut bool) {
+    let mut r = Random(17);
+    let mut s = Section::new("erasure, every layout, window and count to 255 windows");
+    for (m, mode) in MODES.into_iter().enumerate() {
+        for window in windows(mode) {
+            for layout in 1..=8 {
+                let counts: Vec<u32> = (0..=255 * window as u32).collect();
+                for part in counts.chunks(2_048) {
+                    let mut b = Lent::new(m as u8, 0, layout, 0, window as u32, 5 * part.len() as u32, &mut r);
+                    b.terms.chunks_mut(260).for_each(|t| t[2 * 52 + 10] = 9.0);
+                    b.blanked.copy_from_slice(part);
+                    s.pair(b.call(), 0, || b.say());
+                    for (metrics, &count) in b.metrics.chunks(32).zip(part) {
+                        let ours = metrics.iter().all(|x| x.to_bits() == 0);
+                        let theirs = blanked_frac(count, window, layout as usize) > 0.5;
+                        s.pair(ours as u64, theirs as u64, || format!("layout {layout} window {window} count {count}"));
+                    }
+                }
+            }
+        }
     }
     s.end(wrong);
 }
@@ -246,5 +291,6 @@ pub fn all(wrong: &mut bool) {
     named(wrong);
     standins(wrong);
     bursts(wrong);
+    erasures(wrong);
     refusals(wrong);
 }

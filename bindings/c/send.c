@@ -28,8 +28,8 @@ static void heard(float *terms, size_t i, unsigned value) {
 static uint32_t read_back(uint8_t form, const float *terms, uint8_t *bits) {
     static const uint32_t blanked[SYMBOLS];
     static float work[SYMBOLS * ION_VALUES], metrics[SYMBOLS * ION_VALUES], soft[BITS];
-    uint32_t refused = ion_soft_values(ION_R0, ION_HEADER_ONLY, form, 160, BITS, terms, SYMBOLS * ION_TERMS, blanked, SYMBOLS, work,
-                                       SYMBOLS * ION_VALUES, metrics, SYMBOLS * ION_VALUES, soft, BITS);
+    uint32_t refused = ion_soft_values(ION_R0, ION_HEADER_ONLY, ION_FULL_BAND, form, 160, BITS, terms, SYMBOLS * ION_TERMS, blanked, SYMBOLS,
+                                       work, SYMBOLS * ION_VALUES, metrics, SYMBOLS * ION_VALUES, soft, BITS);
     for (int p = 0; refused == 0 && p < BITS; p++)
         bits[p] = !(soft[p] > 0.0f);
     return refused;

@@ -6,7 +6,7 @@ use crate::inputs::{Dice, dirty, rows, sent_places, styled};
 use crate::jobs::{Job, Oracle};
 use crate::made::{How, KINDS, MODES, made};
 use crate::rivals;
-use crate::small::{bad_name, header_bits};
+use crate::small::{bad_name, header_bits, layout};
 use ion::phy_mfsk::hook::{Fmt, decode_terms_told, windows};
 
 const OUTCOMES: &[&str] = &["Sure 1", "Sure 2", "Sure 3", "Kept", "Open"];
@@ -69,7 +69,7 @@ fn named(d: &mut Dice, i: u64) -> (u8, u8) {
 
 /// How a burst is sent and what the channel does to it: from clean to fading under a carrier.
 pub fn channel(d: &mut Dice, mode: u8, kind: u8, bits: u32) -> How {
-    let mut how = How { mode, kind, bits, symbols: d.below(2) == 1, window: windows(MODES[mode as usize])[d.below(3) as usize] as u32, ..How::default() };
+    let mut how = How { mode, kind, layout: layout(d), bits, symbols: d.below(2) == 1, window: windows(MODES[mode as usize])[d.below(3) as usize] as u32, ..How::default() };
     (how.snr, how.doppler, how.delay) = match d.below(4) {
         0 => (20.0, 0.0, 0.0),
         1 => (3.0 + 9.0 * d.unit(), 0.0, 0.0),

@@ -44,10 +44,10 @@ pub fn all(o: &Oracle, folder: &str, plant: Option<(u64, usize)>) -> i32 {
         let mut h = Check { plant: planted(0), ..Check::default() };
         headers::read(o, &mut h, &mut d, b.mode, b.kind, b.header_terms, Header::lengths(header_bits(b.kind)));
         let mut s = Check { plant: planted(1), ..Check::default() };
-        let mut ours = soft::lent(&mut d, b.mode, b.kind, b.symbols as u8, b.window, b.bits);
+        let mut ours = soft::lent(&mut d, b.mode, b.kind, b.layout, b.symbols as u8, b.window, b.bits);
         (ours.terms, ours.blanked) = (b.data_terms, b.blanked);
         soft::values(&mut s, ours);
-        println!("{name}: mode {} kind {} header {}; {} bits {}", b.mode, b.kind, said(&h, &OUTCOMES), b.bits, said(&s, &["in bit form", "in symbol form", "of data"]));
+        println!("{name}: mode {} kind {} layout {} header {}; {} bits {}", b.mode, b.kind, b.layout, said(&h, &OUTCOMES), b.bits, said(&s, &["in bit form", "in symbol form", "of data"]));
         for (what, c) in [("header read", h), ("soft values", s)] {
             if let Some(why) = c.bad {
                 println!("  DIFFERS, {what}: {why}");

@@ -37,28 +37,29 @@ fn multiplier_any(_: &Oracle, d: &mut Dice, _: u64, c: &mut Check) {
 }
 
 /// Of several causes the first in the papers' order.
-fn crc_table(mode: u8, kind: u8, bits: &[u8]) -> u32 {
+fn crc_table(mode: u8, kind: u8, layout: u8, bits: &[u8]) -> u32 {
     match () {
         _ if mode > 1 || kind > 2 => 1,
+        _ if !(1..=8).contains(&layout) => 12,
         _ if bits.len() > 1_024 => 4,
         _ if bits.iter().any(|&b| b > 1) => 5,
         _ => 0,
     }
 }
 
-fn crc(c: &mut Check, mode: u8, kind: u8, bits: &mut [u8]) {
-    let (before, want) = (bits.to_vec(), crc_table(mode, kind, bits));
+fn crc(c: &mut Check, mode: u8, kind: u8, layout: u8, bits: &mut [u8]) {
+    let (before, want) = (bits.to_vec(), crc_table(mode, kind, layout, bits));
     let mut crc = BEFORE as u16;
-    c.one("number", &mut face::crc(mode, kind, bits, &mut crc), want);
+    c.one("number", &mut face::crc(mode, kind, layout, bits, &mut crc), want);
     if want == 0 {
-        c.one("CRC", &mut crc, air::crc16(&before, air::crc_start(1, MODES[mode as usize], KINDS[kind as usize])));
+        c.one("CRC", &mut crc, air::crc16(&before, air::crc_start(layout as usize, MODES[mode as usize], KINDS[kind as usize])));
         c.answered(0);
     } else {
         c.one("CRC's place", &mut crc, BEFORE as u16);
         c.refused(want);
     }
     c.list("the bits", bits, &before);
-    c.input(|| format!("mode {mode} kind {kind} bits {before:?}"));
+    c.input(|| format!("mode {mode} kind {kind} layout {layout} bits {before:?}"));
 }
 
 pub fn random_bits(d: &mut Dice, n: usize) -> Vec<u8> {
@@ -75,23 +76,34 @@ pub fn random_bits(d: &mut Dice, n: usize) -> Vec<u8> {
 
 fn crc_random(_: &Oracle, d: &mut Dice, _: u64, c: &mut Check) {
     let n = if d.below(2) == 0 { d.below(1_025) } else { d.of(&[0, 1, 16, 32, 48, 64, 1_023, 1_024]) };
-    let (mode, kind) = (d.below(2) as u8, d.below(3) as u8);
-    crc(c, mode, kind, &mut random_bits(d, n as usize))
+    let (mode, kind, layout) = (d.below(2) as u8, d.below(3) as u8, layout(d));
+    crc(c, mode, kind, layout, &mut random_bits(d, n as usize))
 }
 
-/// One to three damages: names, the length, a byte.
+/// One to three damages: names, the layout, the length, a byte.
 fn crc_damaged(_: &Oracle, d: &mut Dice, _: u64, c: &mut Check) {
-    let (mut mode, mut kind, n) = (d.below(2) as u8, d.below(3) as u8, d.below(1_025) as usize);
+    let (mut mode, mut kind, mut layout, n) = (d.below(2) as u8, d.below(3) as u8, layout(d), d.below(1_025) as usize);
     let mut bits = random_bits(d, n);
     for _ in 0..1 + d.below(3) {
-        match d.below(4) {
+        match d.below(5) {
             0 => mode = bad_name(d, 2),
             1 => kind = bad_name(d, 3),
+            4 => layout = bad_layout(d),
             2 => bits.resize(d.of(&[1_025, 1_026, 1_088, 2_048, 1_024]), d.below(2) as u8),
             _ => spoil_bit(d, &mut bits),
         }
     }
-    crc(c, mode, kind, &mut bits)
+    crc(c, mode, kind, layout, &mut bits)
+}
+
+/// A layout, 1 to 8 (document 02, #102).
+pub fn layout(d: &mut Dice) -> u8 {
+    1 + d.below(8) as u8
+}
+
+/// A number that is no layout.
+pub fn bad_layout(d: &mut Dice) -> u8 {
+    if d.below(3) == 0 { 0 } else { bad_name(d, 9) }
 }
 
 /// A number from `first` up that names nothing.
@@ -169,7 +181,7 @@ pub fn jobs() -> Vec<Job> {
         job("multiplier", "every n", 10_241, &[], 0.001, |_, _, n, c| multiplier(c, n)),
         job("multiplier", "random", 400_000, &[2], 0.0005, multiplier_any),
         job("CRC", "random", 300_000, &[], 0.01, crc_random),
-        job("CRC", "damaged", 200_000, &[1, 4, 5], 0.004, crc_damaged),
+        job("CRC", "damaged", 200_000, &[1, 12, 4, 5], 0.004, crc_damaged),
         job("header sent", "random", 300_000, &[], 0.01, sent_random),
         job("header sent", "damaged", 200_000, &[1, 4, 5], 0.002, sent_damaged),
     ]

@@ -5,18 +5,18 @@ use crate::headers::{BAD_TERMS, channel};
 use crate::inputs::{Dice, dirty, fill_counts, fill_terms, rows};
 use crate::jobs::{Job, Oracle};
 use crate::made::{MODES, made};
-use crate::small::{bad_name, header_bits};
+use crate::small::{bad_layout, bad_name, header_bits, layout};
 use ion::phy_mfsk::hook::{blanked_frac, soft_terms};
 
 /// The windows of each mode (document 01).
 const WINDOWS: [[u32; 3]; 2] = [[160, 192, 224], [80, 96, 112]];
 
 /// A burst with lists of its lengths that hold other bits; terms and counts to be filled.
-pub fn lent(d: &mut Dice, mode: u8, kind: u8, symbols: u8, window: u32, bits: u32) -> Soft {
+pub fn lent(d: &mut Dice, mode: u8, kind: u8, layout: u8, symbols: u8, window: u32, bits: u32) -> Soft {
     let n = bits.div_ceil(5) as usize;
     let mut list = |n| dirty(n, || d.word());
     let (work, metrics, soft) = (list(32 * n), list(32 * n), list(bits as usize));
-    Soft { mode, kind, symbols, window, bits, terms: vec![0.0; 260 * n], blanked: vec![0; n], work, metrics, soft }
+    Soft { mode, kind, layout, symbols, window, bits, terms: vec![0.0; 260 * n], blanked: vec![0; n], work, metrics, soft }
 }
 
 /// Of several causes the first in the papers' order.
@@ -24,6 +24,7 @@ fn table(b: &Soft) -> u32 {
     let n = (b.bits as u64).div_ceil(5) as usize;
     match () {
         _ if b.mode > 1 || b.kind > 2 => 1,
+        _ if !(1..=8).contains(&b.layout) => 12,
         _ if b.bits > 10_240 => 2,
         _ if !WINDOWS[b.mode as usize].contains(&b.window) => 3,
         _ if [b.terms.len(), b.blanked.len(), b.work.len(), b.metrics.len(), b.soft.len()] != [260 * n, n, 32 * n, 32 * n, b.bits as usize] => 4,
@@ -37,7 +38,7 @@ pub fn values(c: &mut Check, mut ours: Soft) {
     let (before, want) = (ours.clone(), table(&ours));
     c.one("number", &mut ours.values(), want);
     if want == 0 {
-        let counts: Vec<f32> = before.blanked.iter().map(|&x| blanked_frac(x, before.window as usize, 1)).collect();
+        let counts: Vec<f32> = before.blanked.iter().map(|&x| blanked_frac(x, before.window as usize, before.layout as usize)).collect();
         let symbols = before.symbols != 0;
         let theirs = soft_terms(MODES[before.mode as usize], symbols, header_bits(before.kind), before.bits as usize, &rows(&before.terms), &counts);
         c.list("metrics", &mut ours.metrics, &theirs.metrics);
@@ -52,8 +53,8 @@ pub fn values(c: &mut Check, mut ours: Soft) {
     }
     c.list("the terms", &mut ours.terms, &before.terms);
     c.list("the counts", &mut ours.blanked, &before.blanked);
-    let Soft { mode, kind, symbols, window, bits, terms, blanked, .. } = &before;
-    c.input(|| format!("mode {mode} kind {kind} symbols {symbols} window {window} bits {bits}, {} terms {:?}.., counts {:?}..", terms.len(), &terms[..terms.len().min(6)], &blanked[..blanked.len().min(6)]));
+    let Soft { mode, kind, layout, symbols, window, bits, terms, blanked, .. } = &before;
+    c.input(|| format!("mode {mode} kind {kind} layout {layout} symbols {symbols} window {window} bits {bits}, {} terms {:?}.., counts {:?}..", terms.len(), &terms[..terms.len().min(6)], &blanked[..blanked.len().min(6)]));
 }
 
 /// Mostly bursts of up to 1,000 bits, one in sixteen of any length, and the ends.
@@ -71,7 +72,7 @@ fn by_channel(_: &Oracle, d: &mut Dice, i: u64, c: &mut Check) {
     let (mode, kind) = (d.below(2) as u8, [1, 2][d.below(2) as usize]);
     let how = channel(d, mode, kind, bits);
     let b = made(d.word(), &how);
-    let mut ours = lent(d, mode, kind, b.symbols as u8, b.window, bits);
+    let mut ours = lent(d, mode, kind, b.layout, b.symbols as u8, b.window, bits);
     (ours.terms, ours.blanked) = (b.data_terms, b.blanked);
     values(c, ours)
 }
@@ -79,28 +80,31 @@ fn by_channel(_: &Oracle, d: &mut Dice, i: u64, c: &mut Check) {
 fn random(_: &Oracle, d: &mut Dice, i: u64, c: &mut Check) {
     let (mode, bits) = (d.below(2) as u8, bits(d, i));
     let (kind, symbols, window) = (d.below(3) as u8, d.of(&[0, 0, 0, 1, 1, 255]), d.of(&WINDOWS[mode as usize]));
-    let mut ours = lent(d, mode, kind, symbols, window, bits);
+    let layout = layout(d);
+    let mut ours = lent(d, mode, kind, layout, symbols, window, bits);
     let (a, b) = (d.below(10), d.below(5));
     fill_terms(&mut ours.terms, a, || d.word());
-    fill_counts(&mut ours.blanked, window, b, || d.word());
+    fill_counts(&mut ours.blanked, layout, window, b, || d.word());
     values(c, ours)
 }
 
-/// A short burst with up to three damages: names, bit counts, windows of the other mode, five lengths, terms and counts out of range.
+/// A short burst with up to three damages: names, layouts, bit counts, windows of the other mode, five lengths, terms and counts out of range.
 fn damaged(_: &Oracle, d: &mut Dice, i: u64, c: &mut Check) {
     let mode = d.below(2) as u8;
     // one in 500 at the ceiling of bits, with lists of those lengths
     let bits = if i % 500 == 0 { 10_239 + d.below(8) as u32 } else { d.below(41) as u32 };
     let (kind, symbols, window) = (d.below(3) as u8, d.below(2) as u8, d.of(&WINDOWS[mode as usize]));
-    let mut b = lent(d, mode, kind, symbols, window, bits);
+    let layout = layout(d);
+    let mut b = lent(d, mode, kind, layout, symbols, window, bits);
     let (x, y) = (d.below(10), d.below(5));
     fill_terms(&mut b.terms, x, || d.word());
-    fill_counts(&mut b.blanked, window, y, || d.word());
+    fill_counts(&mut b.blanked, layout, window, y, || d.word());
     for _ in 0..d.below(4) {
         let other = |d: &mut Dice, n: usize| d.of(&[n.saturating_sub(1), n + 1, 0, n / 2, n + 32, n + 260]);
-        match d.below(15) {
+        match d.below(16) {
             0 => b.mode = bad_name(d, 2),
             1 => b.kind = bad_name(d, 3),
+            15 => b.layout = bad_layout(d),
             2 => b.bits = d.of(&[10_241, 10_245, u32::MAX, u32::MAX - 4, 1 << 31, 10_240]),
             3 => b.window = d.of(&[0, 79, 81, 97, 111, 113, 159, 161, 193, 223, 225, u32::MAX]),
             4 => b.window = d.of(&WINDOWS[1 - mode as usize]),
@@ -127,7 +131,7 @@ fn damaged(_: &Oracle, d: &mut Dice, i: u64, c: &mut Check) {
 pub fn jobs() -> Vec<Job> {
     let job = |source, inputs, numbers, cost, one| Job { entry: "soft values", source, inputs, kinds: &["bit form", "symbol form", "0 bits"], numbers, cost, one };
     vec![
-        job("damaged", 100_000, &[1, 2, 3, 4, 6, 7], 0.2, damaged),
+        job("damaged", 100_000, &[1, 12, 2, 3, 4, 6, 7], 0.2, damaged),
         job("random", 9_000, &[], 4.0, random),
         job("by channel", 3_000, &[], 12.0, by_channel),
     ]

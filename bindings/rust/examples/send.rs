@@ -1,7 +1,7 @@
 //! Sends data bits and code symbols, hears them without a fault, and reads both back. From the repository's root:
 //!   rt staticlib ion
 //!   cargo run --offline --manifest-path bindings/rust/Cargo.toml --target-dir target/rust --example send
-use ion_proved::{Form, Kind, Mode, Refusal, TERMS, interleave, interleave_sym, slots_of, soft_values};
+use ion_proved::{Form, Kind, Layout, Mode, Refusal, TERMS, interleave, interleave_sym, slots_of, soft_values};
 
 /// SplitMix64, for the hop of a symbol (document 01, 'Modes and air order').
 fn mix64(x: u64) -> u64 {
@@ -31,7 +31,7 @@ fn tone(slots: &[u8]) -> u8 {
 
 /// Reads the data back: a soft bit above 0 is a 0.
 fn read(form: Form, bits: usize, values: &[u8]) -> Result<Vec<u8>, Refusal> {
-    let soft = soft_values(Mode::R0, KIND, form, 160, bits as u32, &heard(values), &vec![0; values.len()])?;
+    let soft = soft_values(Mode::R0, KIND, Layout::FULL, form, 160, bits as u32, &heard(values), &vec![0; values.len()])?;
     Ok(soft.bits.iter().map(|&x| u8::from(x <= 0.0)).collect())
 }
 

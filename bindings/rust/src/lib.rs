@@ -23,7 +23,7 @@ use std::fmt;
 mod sys {
     unsafe extern "C" {
         pub fn ion_interleave_mult(n: u64, mult: *mut u64) -> u32;
-        pub fn ion_crc(mode: u8, kind: u8, bits: *const u8, bits_len: usize, crc: *mut u16) -> u32;
+        pub fn ion_crc(mode: u8, kind: u8, layout: u8, bits: *const u8, bits_len: usize, crc: *mut u16) -> u32;
         pub fn ion_header_values(mode: u8, kind: u8, bits: *const u8, bits_len: usize, values: *mut u8, values_len: usize) -> u32;
         pub fn ion_read_header(
             mode: u8, kind: u8, terms: *const f32, terms_len: usize, scores: *mut f32, scores_len: usize, next: *mut f32, next_len: usize,
@@ -31,7 +31,7 @@ mod sys {
             score: *mut f32,
         ) -> u32;
         pub fn ion_soft_values(
-            mode: u8, kind: u8, symbols: u8, window: u32, bits: u32, terms: *const f32, terms_len: usize, blanked: *const u32,
+            mode: u8, kind: u8, layout: u8, symbols: u8, window: u32, bits: u32, terms: *const f32, terms_len: usize, blanked: *const u32,
             blanked_len: usize, work: *mut f32, work_len: usize, metrics: *mut f32, metrics_len: usize, soft: *mut f32, soft_len: usize,
         ) -> u32;
         pub fn ion_fit_drift(mode: u8, places: *const u32, places_len: usize, timings: *const f64, timings_len: usize, drift: *mut f64) -> u32;
@@ -42,16 +42,16 @@ mod sys {
         ) -> u32;
         pub fn ion_interleave(bits: *const u8, bits_len: usize, slots: *mut u8, slots_len: usize) -> u32;
         pub fn ion_interleave_sym(symbols: *const u8, symbols_len: usize, values: *mut u8, values_len: usize) -> u32;
-        pub fn ion_version_101() -> u32;
+        pub fn ion_version_102() -> u32;
     }
 }
 
 /// The number of the last change request that is in; 0 is the base. The library has it in a symbol's name, so a library of another
 /// version does not link.
-pub const VERSION: u32 = 101;
+pub const VERSION: u32 = 102;
 
 #[used]
-static VERSION_LINKED: unsafe extern "C" fn() -> u32 = sys::ion_version_101;
+static VERSION_LINKED: unsafe extern "C" fn() -> u32 = sys::ion_version_102;
 
 /// Terms of a symbol: five rows of 52.
 pub const TERMS: usize = 260;
@@ -101,6 +101,50 @@ impl Kind {
     }
 }
 
+/// The layout k that a set runs: every duration k times as long, every tone's distance from the centre a k-th. [`Layout::FULL`], k = 1, is
+/// the full band. Two things depend on it: the start of a header's CRC ([`crc`]), and how many audio samples lie behind a symbol
+/// ([`soft_values`]). A header's symbol values and a header read are the same in every layout.
+///
+/// ```
+/// use ion_proved::{Layout, Refusal};
+/// assert_eq!(Layout::new(1), Ok(Layout::FULL));
+/// assert_eq!(Layout::new(7).map(Layout::k), Ok(7));
+/// assert_eq!(Layout::new(0), Err(Refusal::Layout));
+/// assert_eq!(Layout::new(9), Err(Refusal::Layout));
+/// ```
+#[derive(Clone, Copy, Debug, PartialEq, Eq, Hash, PartialOrd, Ord)]
+pub struct Layout(u8);
+
+impl Layout {
+    /// The full band, k = 1.
+    pub const FULL: Layout = Layout(1);
+    /// The narrowest, k = 8.
+    pub const NARROWEST: Layout = Layout(8);
+
+    /// Layout k, from 1 to 8; any other is refused, by the number that the library refuses it by.
+    pub const fn new(k: u8) -> Result<Layout, Refusal> {
+        match k {
+            1..=8 => Ok(Layout(k)),
+            _ => Err(Refusal::Layout),
+        }
+    }
+
+    /// Every layout, the full band first.
+    pub fn all() -> impl Iterator<Item = Layout> {
+        (Layout::FULL.0..=Layout::NARROWEST.0).map(Layout)
+    }
+
+    /// The number k.
+    pub const fn k(self) -> u8 {
+        self.0
+    }
+
+    /// The audio samples behind each sample of the baseband: 6k+1.
+    pub const fn span(self) -> u32 {
+        6 * self.0 as u32 + 1
+    }
+}
+
 /// How soft bits are read from the metrics.
 #[derive(Clone, Copy, Debug, PartialEq, Eq, Hash)]
 #[repr(u8)]
@@ -109,8 +153,8 @@ pub enum Form {
     Symbols = 1,
 }
 
-/// Why nothing was done: the papers' causes. Of several causes, the one whose number comes first in the order 1, 2, 3, 4, 5, 11, 6, 7, 8,
-/// 9, 10.
+/// Why nothing was done: the papers' causes. Of several causes, the one whose number comes first in the order 1, 12, 2, 3, 4, 5, 11, 6,
+/// 7, 8, 9, 10.
 #[derive(Clone, Copy, Debug, PartialEq, Eq, Hash)]
 #[non_exhaustive]
 pub enum Refusal {
@@ -136,15 +180,17 @@ pub enum Refusal {
     Blocks,
     /// A symbol value above 31.
     Value,
+    /// A layout that is not from 1 to 8.
+    Layout,
     /// A number that these bindings have no name for. No function of this version answers one.
     Unnamed(u32),
 }
 
 impl Refusal {
     /// By their numbers, from 1 on.
-    const NAMED: [Refusal; 11] = [
+    const NAMED: [Refusal; 12] = [
         Refusal::Name, Refusal::Count, Refusal::Window, Refusal::Length, Refusal::Bit, Refusal::Term, Refusal::Blanked, Refusal::Sample,
-        Refusal::Tracker, Refusal::Blocks, Refusal::Value,
+        Refusal::Tracker, Refusal::Blocks, Refusal::Value, Refusal::Layout,
     ];
 
     /// The number in the papers.
@@ -152,6 +198,7 @@ impl Refusal {
     /// ```
     /// assert_eq!(ion_proved::Refusal::Blocks.number(), 10);
     /// assert_eq!(ion_proved::Refusal::Value.number(), 11);
+    /// assert_eq!(ion_proved::Refusal::Layout.number(), 12);
     /// ```
     pub fn number(self) -> u32 {
         match self {
@@ -182,6 +229,7 @@ impl fmt::Display for Refusal {
             Refusal::Tracker => "2,048 symbols were tracked already",
             Refusal::Blocks => "over 64 blocks, or a block out of range or falling",
             Refusal::Value => "a symbol value above 31",
+            Refusal::Layout => "a layout not from 1 to 8",
             Refusal::Unnamed(_) => "a number without a name here",
         };
         write!(f, "refused by number {}: {why}", self.number())
@@ -247,21 +295,29 @@ pub fn interleave_mult(n: u64) -> Result<u64, Refusal> {
     Ok(mult)
 }
 
-/// The CRC of up to 1,024 bits, a byte each.
+/// The CRC of up to 1,024 bits, a byte each, in a layout. In a header it stands in the last 16 bits, the first one highest, over the bits
+/// before.
+///
+/// Proved: the same bits have the same CRC under no two of the 48 modes, kinds and layouts, so a header with a good CRC in one layout has
+/// a bad one in every other.
 ///
 /// ```
-/// use ion_proved::{crc, Kind, Mode, Refusal};
-/// assert_eq!(crc(Mode::R1, Kind::Data, &[0, 1, 2]), Err(Refusal::Bit));
-/// assert_eq!(crc(Mode::R1, Kind::Data, &[0; 1025]), Err(Refusal::Length));
+/// use ion_proved::{crc, Kind, Layout, Mode, Refusal};
+/// assert_eq!(crc(Mode::R0, Kind::HeaderOnly, Layout::FULL, &[0]), Ok(0xEFDF));
+/// // of no bits, the start: that of the full band, changed by the layout's mask
+/// assert_eq!(crc(Mode::R0, Kind::HeaderOnly, Layout::new(2)?, &[]), Ok(0xFFFF ^ 0xD869));
+/// assert_eq!(crc(Mode::R1, Kind::Data, Layout::FULL, &[0, 1, 2]), Err(Refusal::Bit));
+/// assert_eq!(crc(Mode::R1, Kind::Data, Layout::FULL, &[0; 1025]), Err(Refusal::Length));
+/// # Ok::<(), Refusal>(())
 /// ```
-pub fn crc(mode: Mode, kind: Kind, bits: &[u8]) -> Result<u16, Refusal> {
+pub fn crc(mode: Mode, kind: Kind, layout: Layout, bits: &[u8]) -> Result<u16, Refusal> {
     let mut crc = 0;
     // SAFETY: the slice is told with its own length.
-    Refusal::told(unsafe { sys::ion_crc(mode as u8, kind as u8, bits.as_ptr(), bits.len(), &mut crc) })?;
+    Refusal::told(unsafe { sys::ion_crc(mode as u8, kind as u8, layout.0, bits.as_ptr(), bits.len(), &mut crc) })?;
     Ok(crc)
 }
 
-/// The symbol values of a header, slot by slot. Both lists have [`Kind::header`] entries.
+/// The symbol values of a header, slot by slot, the same in every layout. Both lists have [`Kind::header`] entries.
 pub fn header_values(mode: Mode, kind: Kind, bits: &[u8], values: &mut [u8]) -> Result<(), Refusal> {
     // SAFETY: both slices are told with their own lengths and cannot overlap.
     Refusal::told(unsafe { sys::ion_header_values(mode as u8, kind as u8, bits.as_ptr(), bits.len(), values.as_mut_ptr(), values.len()) })
@@ -312,7 +368,8 @@ pub fn interleave_sym(symbols: &[u8], values: &mut [u8]) -> Result<(), Refusal> 
     Refusal::told(unsafe { sys::ion_interleave_sym(symbols.as_ptr(), symbols.len(), values.as_mut_ptr(), values.len()) })
 }
 
-/// Reads a header from [`TERMS`] terms for each of its symbols.
+/// Reads a header from [`TERMS`] terms for each of its symbols. The layout has no part in it: the word's CRC ([`crc`]) tells whether it is of
+/// the layout in use.
 ///
 /// ```
 /// use ion_proved::{read_header, Areas, Kind, Mode, Outcome, Refusal, TERMS};
@@ -356,16 +413,20 @@ pub struct Soft {
 }
 
 /// Soft values of `bits` bits in ceil(bits/5) symbols: [`TERMS`] terms and one blanked count a symbol, which is the number of blanked audio
-/// samples among the 7·window behind the symbol's window. A symbol with more than half of them blanked is erased.
+/// samples among the (6k+1)·window behind the symbol's window in layout k ([`Layout::span`] times the window). A symbol with more than half
+/// of them blanked is erased.
 ///
 /// ```
-/// use ion_proved::{soft_values, Form, Kind, Mode, Refusal, TERMS};
+/// use ion_proved::{soft_values, Form, Kind, Layout, Mode, Refusal, TERMS};
 /// // one erased symbol (1,120 of 1,120 blanked) tells nothing; the scramble's sign stays on the second bit
-/// let soft = soft_values(Mode::R0, Kind::HeaderOnly, Form::Bits, 160, 2, &[0.0; TERMS], &[1120]).unwrap();
+/// let soft = soft_values(Mode::R0, Kind::HeaderOnly, Layout::FULL, Form::Bits, 160, 2, &[0.0; TERMS], &[1120]).unwrap();
 /// assert_eq!(soft.bits.iter().map(|x| x.to_bits()).collect::<Vec<_>>(), [0.0_f32.to_bits(), (-0.0_f32).to_bits()]);
-/// assert_eq!(soft_values(Mode::R1, Kind::Data, Form::Bits, 160, 0, &[], &[]), Err(Refusal::Window));
+/// assert_eq!(soft_values(Mode::R1, Kind::Data, Layout::FULL, Form::Bits, 160, 0, &[], &[]), Err(Refusal::Window));
 /// ```
-pub fn soft_values(mode: Mode, kind: Kind, form: Form, window: u32, bits: u32, terms: &[f32], blanked: &[u32]) -> Result<Soft, Refusal> {
+#[allow(clippy::too_many_arguments)]
+pub fn soft_values(
+    mode: Mode, kind: Kind, layout: Layout, form: Form, window: u32, bits: u32, terms: &[f32], blanked: &[u32],
+) -> Result<Soft, Refusal> {
     // more bits than that are refused by their number, whatever the buffers' lengths
     let count = if bits <= BITS { bits as usize } else { 0 };
     let symbols = count.div_ceil(5);
@@ -374,7 +435,7 @@ pub fn soft_values(mode: Mode, kind: Kind, form: Form, window: u32, bits: u32, t
     // SAFETY: every slice is told with its own length; the lent three cannot overlap anything.
     Refusal::told(unsafe {
         sys::ion_soft_values(
-            mode as u8, kind as u8, form as u8, window, bits, terms.as_ptr(), terms.len(), blanked.as_ptr(), blanked.len(),
+            mode as u8, kind as u8, layout.0, form as u8, window, bits, terms.as_ptr(), terms.len(), blanked.as_ptr(), blanked.len(),
             work.as_mut_ptr(), work.len(), soft.metrics.as_mut_ptr(), soft.metrics.len(), soft.bits.as_mut_ptr(), soft.bits.len(),
         )
     })?;

@@ -24,11 +24,11 @@ pub fn interleave_mult(n: u64, mult: &mut u64) -> u32
 }
 
 // Inside: the entry as C calls it.
-pub fn crc(mode: u8, kind: u8, bits: &[u8], crc: &mut u16) -> u32
-    ensures answer { λ r. ⌜ r ≡ number (crcAnswer mode kind (now (bits .entry))) ⌝ }
-    ensures lent { λ _. ⌜ now (crc .exit) ≡ place itself (crcAnswer mode kind (now (bits .entry))) (now (crc .entry)) ⌝ }
+pub fn crc(mode: u8, kind: u8, layout: u8, bits: &[u8], crc: &mut u16) -> u32
+    ensures answer { λ r. ⌜ r ≡ number (crcAnswer mode kind layout (now (bits .entry))) ⌝ }
+    ensures lent { λ _. ⌜ now (crc .exit) ≡ place itself (crcAnswer mode kind layout (now (bits .entry))) (now (crc .entry)) ⌝ }
 {
-    match frame::crc(mode, kind, bits) {
+    match frame::crc(mode, kind, layout, bits) {
         frame::Crc16::Value(c) => {
             *crc = c;
             0

@@ -7,9 +7,9 @@
 ghost use Prim.Native.Nat.{_≤_};
 ghost use mathlib.Core.Path.{_≡_};
 ghost use lib.ListN.{length};
-use burst_file::layout::Head;
-use burst_file::layout::HeadRead;
-use burst_file::layout::Problem;
+use burst_file::format::Head;
+use burst_file::format::HeadRead;
+use burst_file::format::Problem;
 use burst_file::verdict;
 use burst_input::arguments;
 use burst_input::arguments::Asked;
@@ -60,6 +60,7 @@ fn soft_values(
     soft::soft_values(
         head.mode,
         head.kind,
+        head.layout,
         head.symbols,
         head.window,
         head.bits,
@@ -89,9 +90,9 @@ fn show_answer(
     let outcome = answer.outcome;
     let out = burst_lines::header(block, output::nothing(), head.kind, answer.word);
     let out = show_outcome(block, out, outcome);
-    let good = verdict::crc_is_good(head.mode, head.kind, answer.word);
+    let good = verdict::crc_is_good(head.mode, head.kind, head.layout, answer.word);
     let out = burst_lines::crc(block, out, good);
-    let erased = verdict::erased_count(head.window, counts);
+    let erased = verdict::erased_count(head.layout, head.window, counts);
     burst_lines::symbols(block, out, counts.len(), erased)
 }
 

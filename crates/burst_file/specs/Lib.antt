@@ -1,4 +1,4 @@
 -- What the promises of this crate cite.
-pub mod Layout
+pub mod Numbers
 pub mod Head
 pub mod Verdict

@@ -21,10 +21,10 @@ abbrev pub equals : Outcome ℕ → ℕ → Bool
 equals (accepted crc) last = eqb crc last
 equals (refused k) last = false
 
--- the last 16 header bits, the first one highest, are the CRC of those before (frame.rs, `parse_header`)
-unfoldable pub crcGood : ℕ → ℕ → ℕ → Bool
-crcGood mode kind word =
-    equals (crcAnswer mode kind (tabled (headerBits kind - 16) (headerBit word))) (highFirst (headerBit word) (headerBits kind - 16) 16)
+-- the last 16 header bits, the first one highest, are the CRC of those before, in layout k (frame.rs, `parse_header`)
+unfoldable pub crcGood : ℕ → ℕ → ℕ → ℕ → Bool
+crcGood mode kind k word =
+    equals (crcAnswer mode kind k (tabled (headerBits kind - 16) (headerBit word))) (highFirst (headerBit word) (headerBits kind - 16) 16)
 
 -- how many of the first n places have it
 unfoldable pub countOf : (ℕ → Bool) → ℕ → ℕ

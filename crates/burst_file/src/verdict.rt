@@ -39,27 +39,27 @@ fn last_sixteen(bits: &[u8], at: usize) -> u64
     sum
 }
 
-fn agrees(mode: u8, kind: u8, bits: &[u8], last: u64) -> bool
-    ensures { λ r. ⌜ r ≡ equals (crcAnswer mode kind (now (bits .entry))) last ⌝ }
+fn agrees(mode: u8, kind: u8, layout: u8, bits: &[u8], last: u64) -> bool
+    ensures { λ r. ⌜ r ≡ equals (crcAnswer mode kind layout (now (bits .entry))) last ⌝ }
 {
-    match frame::crc(mode, kind, bits) {
+    match frame::crc(mode, kind, layout, bits) {
         frame::Crc16::Value(crc) => crc as u64 == last,
         frame::Crc16::Refused(_) => false,
     }
 }
 
-// Inside: whether the header's last 16 bits, the first one highest, are the CRC of the bits before, whose start is of mode
-// and kind (frame.rs, `parse_header`; bits 32 to 47 of a HeaderOnly or Cue header, 48 to 63 of a Data header).
-pub fn crc_is_good(mode: u8, kind: u8, word: u64) -> bool
-    ensures { λ r. ⌜ r ≡ crcGood mode kind word ⌝ }
+// Inside: whether the header's last 16 bits, the first one highest, are the CRC of the bits before, whose start is of mode,
+// kind and layout (frame.rs, `parse_header`; bits 32 to 47 of a HeaderOnly or Cue header, 48 to 63 of a Data header).
+pub fn crc_is_good(mode: u8, kind: u8, layout: u8, word: u64) -> bool
+    ensures { λ r. ⌜ r ≡ crcGood mode kind layout word ⌝ }
 {
     let bits = bits_of(word);
     if kind == 1 {
         let last = last_sixteen(&bits, 48);
-        return agrees(mode, kind, &bits[..48], last);
+        return agrees(mode, kind, layout, &bits[..48], last);
     }
     let last = last_sixteen(&bits, 32);
-    agrees(mode, kind, &bits[..32], last)
+    agrees(mode, kind, layout, &bits[..32], last)
 }
 
 // One more where a place has it.
@@ -74,13 +74,13 @@ fn more(n: u64, has: bool) -> u64
     n
 }
 
-// Inside: how many symbols are erased: more than half of their 7·window samples are blanked.
-pub fn erased_count(window: u32, counts: &[u32]) -> u64
-    ensures { λ r. ⌜ r ≡ countOf (λ i. erasedOf 7 window (getD (now (counts .entry)) i 0)) (length (now (counts .entry))) ⌝ }
+// Inside: how many symbols are erased: in layout k more than half of their (6k+1)·window samples are blanked.
+pub fn erased_count(layout: u8, window: u32, counts: &[u32]) -> u64
+    ensures { λ r. ⌜ r ≡ countOf (λ i. erasedOf layout window (getD (now (counts .entry)) i 0)) (length (now (counts .entry))) ⌝ }
 {
     let mut n: u64 = 0;
     for i in 0..counts.len() {
-        n = more(n, symbol::erased(7, window, counts[i]));
+        n = more(n, symbol::erased(layout, window, counts[i]));
     }
     n
 }

@@ -2,8 +2,8 @@
 ghost use Prim.Native.Nat.{_+_, _≤_};
 ghost use mathlib.Core.Path.{_≡_};
 ghost use lib.ListN.{length};
-use burst_file::layout::HeadRead;
-use burst_file::layout::Problem;
+use burst_file::format::HeadRead;
+use burst_file::format::Problem;
 use burst_text::output::nothing;
 use burst_text::output::text;
 
@@ -43,7 +43,7 @@ fn read_symbol(fd: i32, terms: &mut [f32], at: usize) -> bool
     if io::read_full(fd, &mut bytes) < 1040 {
         return false;
     }
-    burst_file::layout::put_terms(&bytes, terms, at);
+    burst_file::format::put_terms(&bytes, terms, at);
     true
 }
 
@@ -70,7 +70,7 @@ fn read_word(fd: i32) -> Got {
     if io::read_full(fd, &mut four) < 4 {
         return Got::End;
     }
-    Got::Word(burst_file::layout::word_at(&four, 0))
+    Got::Word(burst_file::format::word_at(&four, 0))
 }
 
 fn read_counts(fd: i32, counts: &mut [u32]) -> bool
@@ -106,7 +106,7 @@ pub fn read_head(fd: i32) -> HeadRead {
     if io::read_full(fd, &mut bytes) < 20 {
         return HeadRead::Bad(why_short(fd));
     }
-    burst_file::layout::head_of(&bytes)
+    burst_file::format::head_of(&bytes)
 }
 
 // Inside: the lent terms and counts filled from the input, to its end.

@@ -1,12 +1,12 @@
 // What was wrong, in a line on standard error.
-use burst_file::layout::Problem;
+use burst_file::format::Problem;
 use libc::STDERR_FILENO;
 
 fn text(s: &[u8]) {
     io::write_all(STDERR_FILENO, s);
 }
 
-// Document 01, 'When nothing is done'.
+// Document 01, 'When nothing is done', and document 02, #102.
 fn refused(k: u8) {
     text(b"refused: ");
     io::print_decimal(STDERR_FILENO, k as u64);
@@ -16,6 +16,7 @@ fn refused(k: u8) {
         3 => text(b", window not of the mode\n"),
         6 => text(b", a term not finite or beyond 1,000,000\n"),
         7 => text(b", a blanked count above 255 windows\n"),
+        12 => text(b", a layout not from 1 to 8\n"),
         _ => text(b", document 01 has the table\n"),
     }
 }
@@ -35,9 +36,9 @@ pub fn report(p: Problem) {
         Problem::Short => text(b"the input ends before the burst does\n"),
         Problem::Long => text(b"the input goes on after the burst\n"),
         Problem::Magic => text(b"the input does not begin with IONB\n"),
-        Problem::Version => text(b"a version other than 0\n"),
+        Problem::Version => text(b"a version other than 0 and 1\n"),
         Problem::Form => text(b"a form other than 0 and 1\n"),
-        Problem::Zeros => text(b"bytes 8 to 11 are not zeros\n"),
+        Problem::Zeros => text(b"bytes 8 to 11 (version 1: 9 to 11) are not zeros\n"),
         Problem::Refused(k) => refused(k),
     }
 }

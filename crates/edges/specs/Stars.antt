@@ -30,7 +30,7 @@ pub record Stars : Type 0 where
   pub gray : grayOf 31 ≡ 16
   -- the CRC of bit 0 from 0xFFFF
   pub crc : crcOf 0xFFFF (0 ∷ []) ≡ 0xEFDF
-  -- window 160: 560 kept, 561 erased
-  pub erasure : (erasedOf 7 160 560 ≡ false) × (erasedOf 7 160 561 ≡ true)
+  -- window 160: 560 kept, 561 erased, in document 01's layout, which is 1
+  pub erasure : (erasedOf 1 160 560 ≡ false) × (erasedOf 1 160 561 ≡ true)
   -- five blocks: drift 0.0, in both modes, whatever good blocks they are
   pub fit : (mode : ℕ) (bs : List Block) → mode < 2 → length bs ≡ 5 → goodBlocks (length bs) bs ≡ true → fitAnswer mode bs ≡ accepted plusZero

@@ -11,11 +11,11 @@ use Rattle.symbol.specs.Symbol.{erasedOf}
 use Rattle.forms.specs.Burst.{Received, valueOf}
 
 module _ (r : Received) (i v : ℕ) where
-  pub value-erased : erasedOf 7 (r .window) (r .counts i) ≡ true → valueOf r i v ≡ plusZero
+  pub value-erased : erasedOf (r .layout) (r .window) (r .counts i) ≡ true → valueOf r i v ≡ plusZero
   unfolding valueOf
   value-erased e = rw e
 
-  pub value-kept : (bins hop head : ℕ) → erasedOf 7 (r .window) (r .counts i) ≡ false → bins ≡ formatOf (r .mode) .bins
+  pub value-kept : (bins hop head : ℕ) → erasedOf (r .layout) (r .window) (r .counts i) ≡ false → bins ≡ formatOf (r .mode) .bins
       → hop ≡ hopOf (formatOf (r .mode) .bins) (head + i) → head ≡ headerBits (r .kind)
       → metricOf (add binary32) plusZero (r .terms) i (placeOf (binOf bins hop v)) ≡ valueOf r i v
   unfolding valueOf

@@ -1,4 +1,4 @@
--- Document 01, 'Metrics and soft bits': the metrics and soft bits of a burst.
+-- Document 01, 'Metrics and soft bits': the metrics and soft bits of a burst, in a layout of document 02.
 use Prim.Native.Nat.{ℕ, _+_, _*_, _-_}
 use mathlib.Core.Bool.{Bool, true, false}
 use mathlib.Core.List.{List}
@@ -17,18 +17,20 @@ use Rattle.symbol.specs.Symbol.{erasedOf, metricOut, softBit}
 pub record Received : Type 0 where
   pub mode : ℕ
   pub kind : ℕ
+  pub layout : ℕ
   pub window : ℕ
   pub terms : ℕ → Float
   pub counts : ℕ → ℕ
 
-abbrev pub received : ℕ → ℕ → ℕ → List Float → List ℕ → Received
-received mode kind window terms counts = record { mode = mode; kind = kind; window = window; terms = λ i. getD terms i nan; counts = λ i. getD counts i 0 }
+abbrev pub received : ℕ → ℕ → ℕ → ℕ → List Float → List ℕ → Received
+received mode kind layout window terms counts =
+    record { mode = mode; kind = kind; layout = layout; window = window; terms = λ i. getD terms i nan; counts = λ i. getD counts i 0 }
 
 -- data symbol i has hop(header symbols + i); erased, all 32 values count 0.0
 unfoldable pub valueOf : Received → ℕ → ℕ → Float
 valueOf r i v =
     let bins = formatOf (r .mode) .bins in
-    choose (erasedOf 7 (r .window) (r .counts i)) plusZero
+    choose (erasedOf (r .layout) (r .window) (r .counts i)) plusZero
     (metricOf (add binary32) plusZero (r .terms) i (placeOf (binOf bins (hopOf bins (headerBits (r .kind) + i)) v)))
 
 -- metric v of symbol i: bit form in slot order, symbol form through `deinterleave_sym`

@@ -13,12 +13,20 @@ ghost use Rattle.forms.specs.Burst.{received, valueOf, metricsOut};
 ghost use Rattle.forms.specs.Inside.{Lent, Made};
 
 // The 32 values of data symbol i.
-fn values(mode: u8, kind: u8, window: u32, terms: &[f32], blanked: &[u32], i: usize) -> [f32; 32]
+fn values(
+    mode: u8,
+    kind: u8,
+    layout: u8,
+    window: u32,
+    terms: &[f32],
+    blanked: &[u32],
+    i: usize,
+) -> [f32; 32]
     requires { ⌜ (i < length (now blanked)) × (260 * i + 260 ≤ length (now terms)) × (i < 2048) ⌝ }
     ensures { λ r. ⌜ (length r ≡ 32)
-        × ((v : ℕ) → v < 32 → getD r v nan ≡ valueOf (received mode kind window (now (terms .entry)) (now (blanked .entry))) i v) ⌝ }
+        × ((v : ℕ) → v < 32 → getD r v nan ≡ valueOf (received mode kind layout window (now (terms .entry)) (now (blanked .entry))) i v) ⌝ }
 {
-    if symbol::erased(7, window, blanked[i]) {
+    if symbol::erased(layout, window, blanked[i]) {
         return [0.0f32; 32];
     }
     let h = frame::hop(mode, frame::header_symbols(kind) + (i as u64));
@@ -26,26 +34,42 @@ fn values(mode: u8, kind: u8, window: u32, terms: &[f32], blanked: &[u32], i: us
 }
 
 // The metrics out of every symbol, in slot order.
-fn all_metrics(mode: u8, kind: u8, window: u32, terms: &[f32], blanked: &[u32], out: &mut [f32])
+fn all_metrics(
+    mode: u8,
+    kind: u8,
+    layout: u8,
+    window: u32,
+    terms: &[f32],
+    blanked: &[u32],
+    out: &mut [f32],
+)
     requires { ⌜ (length (now blanked) ≤ 2048) × (length (now terms) ≡ 260 * length (now blanked)) × (length (now out) ≡ 32 * length (now blanked)) ⌝ }
     ensures { λ r. ⌜ now (out .exit) ≡ metricsOut false (length (now (blanked .entry)))
-        (valueOf (received mode kind window (now (terms .entry)) (now (blanked .entry)))) ⌝ }
+        (valueOf (received mode kind layout window (now (terms .entry)) (now (blanked .entry)))) ⌝ }
 {
     for i in 0..blanked.len() {
-        let own = values(mode, kind, window, terms, blanked, i);
+        let own = values(mode, kind, layout, window, terms, blanked, i);
         symbol::put_metrics(&own, out, i);
     }
 }
 
 // The soft bits of every symbol's Gray bits, in slot order.
-fn all_bits(mode: u8, kind: u8, window: u32, terms: &[f32], blanked: &[u32], slots: &mut [f32])
+fn all_bits(
+    mode: u8,
+    kind: u8,
+    layout: u8,
+    window: u32,
+    terms: &[f32],
+    blanked: &[u32],
+    slots: &mut [f32],
+)
     requires { ⌜ (length (now blanked) ≤ 2048) × (length (now terms) ≡ 260 * length (now blanked)) × (5 * length (now blanked) ≤ length (now slots)) ⌝ }
     ensures { λ r. ⌜ (length (now (slots .exit)) ≡ length (now (slots .entry)))
         × ((q : ℕ) → q < 5 * length (now (blanked .entry)) → getD (now (slots .exit)) q nan
-        ≡ rows 5 (λ i k. softBit true k (valueOf (received mode kind window (now (terms .entry)) (now (blanked .entry))) i)) q) ⌝ }
+        ≡ rows 5 (λ i k. softBit true k (valueOf (received mode kind layout window (now (terms .entry)) (now (blanked .entry))) i)) q) ⌝ }
 {
     for i in 0..blanked.len() {
-        let own = values(mode, kind, window, terms, blanked, i);
+        let own = values(mode, kind, layout, window, terms, blanked, i);
         symbol::put_bits(&own, slots, i);
     }
 }
@@ -78,6 +102,7 @@ fn clear(work: &mut [f32])
 fn bit_form(
     mode: u8,
     kind: u8,
+    layout: u8,
     window: u32,
     terms: &[f32],
     blanked: &[u32],
@@ -87,11 +112,11 @@ fn bit_form(
 )
     requires { ⌜ Lent (length (now terms)) (length (now blanked)) (length (now work)) (length (now metrics)) (length (now soft)) ⌝ }
     ensures { λ r. ⌜ (now (work .exit) ≡ replicate (length (now (work .entry))) plusZero)
-        × Made false (valueOf (received mode kind window (now (terms .entry)) (now (blanked .entry))))
+        × Made false (valueOf (received mode kind layout window (now (terms .entry)) (now (blanked .entry))))
         (length (now (blanked .entry))) (length (now (soft .entry))) (now (metrics .exit)) (now (soft .exit)) ⌝ }
 {
-    all_metrics(mode, kind, window, terms, blanked, metrics);
-    all_bits(mode, kind, window, terms, blanked, work);
+    all_metrics(mode, kind, layout, window, terms, blanked, metrics);
+    all_bits(mode, kind, layout, window, terms, blanked, work);
     interleave::deinterleave(5 * (blanked.len() as u64), work, soft);
     clear(work);
 }
@@ -100,6 +125,7 @@ fn bit_form(
 fn symbol_form(
     mode: u8,
     kind: u8,
+    layout: u8,
     window: u32,
     terms: &[f32],
     blanked: &[u32],
@@ -109,10 +135,10 @@ fn symbol_form(
 )
     requires { ⌜ Lent (length (now terms)) (length (now blanked)) (length (now work)) (length (now metrics)) (length (now soft)) ⌝ }
     ensures { λ r. ⌜ (now (work .exit) ≡ replicate (length (now (work .entry))) plusZero)
-        × Made true (valueOf (received mode kind window (now (terms .entry)) (now (blanked .entry))))
+        × Made true (valueOf (received mode kind layout window (now (terms .entry)) (now (blanked .entry))))
         (length (now (blanked .entry))) (length (now (soft .entry))) (now (metrics .exit)) (now (soft .exit)) ⌝ }
 {
-    all_metrics(mode, kind, window, terms, blanked, work);
+    all_metrics(mode, kind, layout, window, terms, blanked, work);
     interleave::deinterleave_sym(blanked.len() as u64, work, metrics);
     plain_bits(metrics, soft);
     clear(work);
@@ -122,6 +148,7 @@ fn symbol_form(
 pub fn make(
     mode: u8,
     kind: u8,
+    layout: u8,
     symbols: bool,
     window: u32,
     terms: &[f32],
@@ -132,12 +159,32 @@ pub fn make(
 )
     requires { ⌜ Lent (length (now terms)) (length (now blanked)) (length (now work)) (length (now metrics)) (length (now soft)) ⌝ }
     ensures { λ r. ⌜ (now (work .exit) ≡ replicate (length (now (work .entry))) plusZero)
-        × Made symbols (valueOf (received mode kind window (now (terms .entry)) (now (blanked .entry))))
+        × Made symbols (valueOf (received mode kind layout window (now (terms .entry)) (now (blanked .entry))))
         (length (now (blanked .entry))) (length (now (soft .entry))) (now (metrics .exit)) (now (soft .exit)) ⌝ }
 {
     if symbols {
-        symbol_form(mode, kind, window, terms, blanked, work, metrics, soft);
+        symbol_form(
+            mode,
+            kind,
+            layout,
+            window,
+            terms,
+            blanked,
+            work,
+            metrics,
+            soft,
+        );
     } else {
-        bit_form(mode, kind, window, terms, blanked, work, metrics, soft);
+        bit_form(
+            mode,
+            kind,
+            layout,
+            window,
+            terms,
+            blanked,
+            work,
+            metrics,
+            soft,
+        );
     }
 }

@@ -1,11 +1,11 @@
 // The air order (phy_mfsk/frame.rs): the formats of the two modes, hops, bins and places, header slots, and the CRC by
-// mode and kind, which is a public entry. Definitions in specs/.
+// mode, kind and layout, which is a public entry. Definitions in specs/.
 ghost use mathlib.Core.Path.{_≡_};
 ghost use Prim.Native.Nat.{_≤_, _<_};
 ghost use mathlib.Core.List.{[], _∷_};
-ghost use Rattle.frame.specs.Format.{r0, r1, formatOf, headerBits, named, listed};
+ghost use Rattle.frame.specs.Format.{r0, r1, formatOf, headerBits, named, layoutNamed, listed};
 ghost use Rattle.frame.specs.Air.{hopOf, binOf, placeOf, slotOf};
-ghost use Rattle.frame.specs.Crc.{startOf, someAbove, someAboveOne, meaning, crcAnswer};
+ghost use Rattle.frame.specs.Crc.{baseStart, maskOf, startOf, someAbove, someAboveOne, meaning, crcAnswer};
 
 // 28 ms symbols on a 50 Hz grid.
 pub struct R0;
@@ -109,6 +109,16 @@ pub fn is_named(mode: u8, kind: u8) -> bool
     kind <= 2
 }
 
+// Inside: whether a layout is named, from 1, the full band, to 8.
+pub fn is_layout(layout: u8) -> bool
+    ensures { λ r. ⌜ r ≡ layoutNamed layout ⌝ }
+{
+    if layout < 1 {
+        return false;
+    }
+    layout <= 8
+}
+
 // Inside: header symbols, which are as many as header bits.
 pub fn header_symbols(kind: u8) -> u64
     ensures { λ r. ⌜ r ≡ headerBits kind ⌝ }
@@ -163,10 +173,10 @@ pub fn header_slot(kind: u8, j: u64) -> u64
     slot(header_symbols(kind), j)
 }
 
-// Inside: the CRC's start carries mode and kind, so that a header read under another fails its check.
-pub fn crc_init(mode: u8, kind: u8) -> u16
+// The CRC's start by mode and kind, as the full band has it.
+fn base_start(mode: u8, kind: u8) -> u16
     requires { ⌜ kind ≤ 2 ⌝ }
-    ensures { λ r. ⌜ r ≡ startOf mode kind ⌝ }
+    ensures { λ r. ⌜ r ≡ baseStart mode kind ⌝ }
 {
     let k = kind as usize;
     if mode == 0 {
@@ -174,6 +184,24 @@ pub fn crc_init(mode: u8, kind: u8) -> u16
     } else {
         R1::CRC_STARTS[k]
     }
+}
+
+// What a layout changes of it: nothing in the full band, never nothing in another layout.
+fn layout_mask(layout: u8) -> u16
+    ensures { λ r. ⌜ r ≡ maskOf layout ⌝ }
+{
+    if layout == 1 {
+        return 0;
+    }
+    ((util::mix64(0x4C41_594F_5554 ^ (layout as u64)) % 65536) as u16) | 1
+}
+
+// Inside: the CRC's start carries mode, kind and layout, so that a header read under another fails its check.
+pub fn crc_init(mode: u8, kind: u8, layout: u8) -> u16
+    requires { ⌜ kind ≤ 2 ⌝ }
+    ensures { λ r. ⌜ r ≡ startOf mode kind layout ⌝ }
+{
+    base_start(mode, kind) ^ layout_mask(layout)
 }
 
 // Inside: whether some byte is above a limit.
@@ -201,12 +229,16 @@ pub enum Crc16 {
     Refused(u8),
 }
 
-// Public entry: the CRC of 0 to 1,024 bits under a mode and a kind (document 01, 'Modes and air order').
-pub fn crc(mode: u8, kind: u8, bits: &[u8]) -> Crc16
-    ensures { λ r. ⌜ meaning r ≡ crcAnswer mode kind (now (bits .entry)) ⌝ }
+// Public entry: the CRC of 0 to 1,024 bits under a mode, a kind and a layout (document 01, 'Modes and air order';
+// document 02, #102).
+pub fn crc(mode: u8, kind: u8, layout: u8, bits: &[u8]) -> Crc16
+    ensures { λ r. ⌜ meaning r ≡ crcAnswer mode kind layout (now (bits .entry)) ⌝ }
 {
     if !is_named(mode, kind) {
         return Crc16::Refused(1);
+    }
+    if !is_layout(layout) {
+        return Crc16::Refused(12);
     }
     if bits.len() > 1024 {
         return Crc16::Refused(4);
@@ -214,5 +246,5 @@ pub fn crc(mode: u8, kind: u8, bits: &[u8]) -> Crc16
     if some_above_one(bits) {
         return Crc16::Refused(5);
     }
-    Crc16::Value(util::crc16(bits, crc_init(mode, kind)))
+    Crc16::Value(util::crc16(bits, crc_init(mode, kind, layout)))
 }

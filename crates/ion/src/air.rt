@@ -16,11 +16,11 @@ pub extern "C" fn ion_interleave_mult(n: u64, mult: &mut u64) -> u32
 }
 
 #[no_mangle]
-pub extern "C" fn ion_crc(mode: u8, kind: u8, bits: &[u8], crc: &mut u16) -> u32
-    ensures answer { λ r. ⌜ r ≡ number (crcAnswer mode kind (now (bits .entry))) ⌝ }
-    ensures lent { λ _. ⌜ now (crc .exit) ≡ place itself (crcAnswer mode kind (now (bits .entry))) (now (crc .entry)) ⌝ }
+pub extern "C" fn ion_crc(mode: u8, kind: u8, layout: u8, bits: &[u8], crc: &mut u16) -> u32
+    ensures answer { λ r. ⌜ r ≡ number (crcAnswer mode kind layout (now (bits .entry))) ⌝ }
+    ensures lent { λ _. ⌜ now (crc .exit) ≡ place itself (crcAnswer mode kind layout (now (bits .entry))) (now (crc .entry)) ⌝ }
 {
-    air_face::crc(mode, kind, bits, crc)
+    air_face::crc(mode, kind, layout, bits, crc)
 }
 
 #[no_mangle]

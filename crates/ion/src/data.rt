@@ -8,6 +8,7 @@ ghost use Rattle.soft_face.specs.Face.{SoftFace};
 pub extern "C" fn ion_soft_values(
     mode: u8,
     kind: u8,
+    layout: u8,
     symbols: u8,
     window: u32,
     bits: u32,
@@ -17,12 +18,13 @@ pub extern "C" fn ion_soft_values(
     metrics: &mut [f32],
     soft: &mut [f32],
 ) -> u32
-    ensures face { λ r. ⌜ SoftFace (asked mode kind (not (eqb symbols 0)) window bits (now (terms .entry)) (now (blanked .entry))
+    ensures face { λ r. ⌜ SoftFace (asked mode kind layout (not (eqb symbols 0)) window bits (now (terms .entry)) (now (blanked .entry))
         (now (work .entry)) (now (metrics .entry)) (now (soft .entry))) r (now (work .exit)) (now (metrics .exit)) (now (soft .exit)) ⌝ }
 {
     soft_face::values(
         mode,
         kind,
+        layout,
         symbols,
         window,
         bits,

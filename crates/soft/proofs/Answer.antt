@@ -10,7 +10,7 @@ use lib.Ieee.{Float}
 use Rattle.util.specs.Choose.{choose}
 use Rattle.util.specs.Some.{someOf}
 use Rattle.util.specs.Refusal.{Cause, Outcome, refused, accepted, outcome, afterwards}
-use Rattle.frame.specs.Format.{formatOf, listed}
+use Rattle.frame.specs.Format.{formatOf, layoutNamed, listed}
 use Rattle.ieee.specs.Whole.{plusZero}
 use Rattle.model.specs.Range.{someOut}
 use Rattle.interleave.specs.Interleave.{symbolsOf}
@@ -55,6 +55,7 @@ none-holds (c ∷ cs) x e = by (c .holds) refl e (none-holds cs x)
     by true q g rest = absurd (let z : _≡_ {A = ℕ} 0 1 = cc in omega arith)
 
 pub record Accepted (a : Asked) : Type 0 where
+  pub layout : layoutNamed (a .layout) ≡ true
   pub few : a .bits ≤ 10240
   pub window : listed (a .window) (formatOf (a .mode) .windows) ≡ true
   pub lengths : sized a ≡ true
@@ -65,11 +66,12 @@ pub accepted-all : (a : Asked) → softAnswer a ≡ accepted tt → Accepted a
 accepted-all a e =
     let all = none-holds (causes a) tt e in
     record {
-      few = ltb-false 10240 (a .bits) (all .1 .0);
-      window = not-false _ (all .1 .1 .0);
-      lengths = not-false _ (all .1 .1 .1 .0);
-      terms = all .1 .1 .1 .1 .0;
-      counts = all .1 .1 .1 .1 .1 .0;
+      layout = not-false _ (all .1 .0);
+      few = ltb-false 10240 (a .bits) (all .1 .1 .0);
+      window = not-false _ (all .1 .1 .1 .0);
+      lengths = not-false _ (all .1 .1 .1 .1 .0);
+      terms = all .1 .1 .1 .1 .1 .0;
+      counts = all .1 .1 .1 .1 .1 .1 .0;
     }
 
 -- what the fourth test leaves: the lengths of one burst

@@ -26,13 +26,13 @@ use Rattle.soft.proofs.Answer.{accepted-all, lengths-are}
 
 -- the same burst with other terms
 abbrev pub withTerms : Asked → List Float → Asked
-withTerms a terms = asked (a .mode) (a .kind) (a .symbols) (a .window) (a .bits) terms (a .counts) (a .work) (a .metrics) (a .soft)
+withTerms a terms = asked (a .mode) (a .kind) (a .layout) (a .symbols) (a .window) (a .bits) terms (a .counts) (a .work) (a .metrics) (a .soft)
 
 module _ (a : Asked) (terms : List Float) (one : softAnswer a ≡ accepted tt) (two : softAnswer (withTerms a terms) ≡ accepted tt)
-    (same : (i : ℕ) → i < symbolsOf (a .bits) → erasedOf 7 (a .window) (getD (a .counts) i 0) ≡ false → (j : ℕ) → j < 260
+    (same : (i : ℕ) → i < symbolsOf (a .bits) → erasedOf (a .layout) (a .window) (getD (a .counts) i 0) ≡ false → (j : ℕ) → j < 260
     → getD (a .terms) (260 * i + j) nan ≡ getD terms (260 * i + j) nan) where
   -- past the end both have no term
-  term-same : (i : ℕ) → erasedOf 7 (a .window) (getD (a .counts) i 0) ≡ false → (j : ℕ) → j < 260
+  term-same : (i : ℕ) → erasedOf (a .layout) (a .window) (getD (a .counts) i 0) ≡ false → (j : ℕ) → j < 260
       → getD (a .terms) (260 * i + j) nan ≡ getD terms (260 * i + j) nan
   term-same i kept j h =
       let p : length (a .terms) ≡ 260 * symbolsOf (a .bits) = lengths-are (a .bits) _ _ _ _ _ (accepted-all a one .lengths) .0 in
@@ -45,7 +45,7 @@ module _ (a : Asked) (terms : List Float) (one : softAnswer a ≡ accepted tt) (
       List·getD-eq-default (a .terms) nan u ∙ sym (List·getD-eq-default terms nan v))
       (below-or-not i (symbolsOf (a .bits)))
 
-  metric-kept : (i e : ℕ) → erasedOf 7 (a .window) (getD (a .counts) i 0) ≡ false → ((j : ℕ) → j < 5 → e + j - 2 < 52)
+  metric-kept : (i e : ℕ) → erasedOf (a .layout) (a .window) (getD (a .counts) i 0) ≡ false → ((j : ℕ) → j < 5 → e + j - 2 < 52)
       → metricOf (add binary32) plusZero (λ k. getD (a .terms) k nan) i e ≡ metricOf (add binary32) plusZero (λ k. getD terms k nan) i e
   unfolding metricOf
   metric-kept i e kept row =
@@ -53,7 +53,7 @@ module _ (a : Asked) (terms : List Float) (one : softAnswer a ≡ accepted tt) (
       (λ j l. let inside : 52 * j + (e + j - 2) < 260 = omega (arith, row j l) in term-same i kept (52 * j + (e + j - 2)) inside)
 
   value-same : (i v : ℕ) → valuesOf a i v ≡ valuesOf (withTerms a terms) i v
-  value-same i v = by (erasedOf 7 (a .window) (getD (a .counts) i 0)) refl
+  value-same i v = by (erasedOf (a .layout) (a .window) (getD (a .counts) i 0)) refl
     where
       bins : ℕ
       bins = formatOf (a .mode) .bins
@@ -61,13 +61,13 @@ module _ (a : Asked) (terms : List Float) (one : softAnswer a ≡ accepted tt) (
       hop : ℕ
       hop = hopOf bins (headerBits (a .kind) + i)
 
-      by : (t : Bool) → erasedOf 7 (a .window) (getD (a .counts) i 0) ≡ t → valuesOf a i v ≡ valuesOf (withTerms a terms) i v
-      by true q = value-erased (received (a .mode) (a .kind) (a .window) (a .terms) (a .counts)) i v q
-          ∙ sym (value-erased (received (a .mode) (a .kind) (a .window) terms (a .counts)) i v q)
+      by : (t : Bool) → erasedOf (a .layout) (a .window) (getD (a .counts) i 0) ≡ t → valuesOf a i v ≡ valuesOf (withTerms a terms) i v
+      by true q = value-erased (received (a .mode) (a .kind) (a .layout) (a .window) (a .terms) (a .counts)) i v q
+          ∙ sym (value-erased (received (a .mode) (a .kind) (a .layout) (a .window) terms (a .counts)) i v q)
       by false q =
-          sym (value-kept (received (a .mode) (a .kind) (a .window) (a .terms) (a .counts)) i v bins hop (headerBits (a .kind)) q refl refl refl)
+          sym (value-kept (received (a .mode) (a .kind) (a .layout) (a .window) (a .terms) (a .counts)) i v bins hop (headerBits (a .kind)) q refl refl refl)
           ∙ metric-kept i (placeOf (binOf bins hop v)) q (λ j l. place-in-row bins hop v j (bins-some (a .mode)) (bins-most (a .mode)) l)
-          ∙ value-kept (received (a .mode) (a .kind) (a .window) terms (a .counts)) i v bins hop (headerBits (a .kind)) q refl refl refl
+          ∙ value-kept (received (a .mode) (a .kind) (a .layout) (a .window) terms (a .counts)) i v bins hop (headerBits (a .kind)) q refl refl refl
 
   values-same : valuesOf a ≡ valuesOf (withTerms a terms)
   values-same = fun-ext (λ i. fun-ext (λ v. value-same i v))

@@ -81,7 +81,7 @@ module _ (a : Asked) (ok : softAnswer a ≡ accepted tt) where
       (λ j l. term-at (termAt i j (e + j - 2)) (omega (arith, term-in-symbol i j (e + j - 2) l (row j l))))
 
   value-in : (i v : ℕ) → i < n → Within lowEnd (highEnd 0) (valuesOf a i v)
-  value-in i v h = by (erasedOf 7 (a .window) (getD (a .counts) i 0)) refl
+  value-in i v h = by (erasedOf (a .layout) (a .window) (getD (a .counts) i 0)) refl
     where
       bins : ℕ
       bins = formatOf (a .mode) .bins
@@ -89,12 +89,12 @@ module _ (a : Asked) (ok : softAnswer a ≡ accepted tt) where
       e : ℕ
       e = placeOf (binOf bins (hopOf bins (headerBits (a .kind) + i)) v)
 
-      by : (t : Bool) → erasedOf 7 (a .window) (getD (a .counts) i 0) ≡ t → Within lowEnd (highEnd 0) (valuesOf a i v)
+      by : (t : Bool) → erasedOf (a .layout) (a .window) (getD (a .counts) i 0) ≡ t → Within lowEnd (highEnd 0) (valuesOf a i v)
       by true q = subst (λ (x : Float). Within lowEnd (highEnd 0) x)
-          (sym (value-erased (received (a .mode) (a .kind) (a .window) (a .terms) (a .counts)) i v q)) zero-in
+          (sym (value-erased (received (a .mode) (a .kind) (a .layout) (a .window) (a .terms) (a .counts)) i v q)) zero-in
       by false q =
           subst (λ (x : Float). Within lowEnd (highEnd 0) x)
-          (value-kept (received (a .mode) (a .kind) (a .window) (a .terms) (a .counts)) i v _ _ _ q refl refl refl)
+          (value-kept (received (a .mode) (a .kind) (a .layout) (a .window) (a .terms) (a .counts)) i v _ _ _ q refl refl refl)
           (kept-in i e (λ j l. place-in-row bins (hopOf bins (headerBits (a .kind) + i)) v j (bins-some (a .mode)) (bins-most (a .mode)) l) h)
 
   -- the metrics out

@@ -3,4 +3,5 @@ pub mod Answer
 pub mod Erased
 pub mod Bounded
 pub mod Blanked
+pub mod FullBand
 pub mod Refused

@@ -1,4 +1,5 @@
--- Document 01, 'Metrics and soft bits' and 'When nothing is done': the public entry with its refusals, and what it leaves in each lent list.
+-- Document 01, 'Metrics and soft bits' and 'When nothing is done', and document 02, #102: the public entry with its
+-- refusals, and what it leaves in each lent list.
 use Prim.Native.Nat.{ℕ, _*_}
 use mathlib.Core.Bool.{Bool, not, _&&_}
 use mathlib.Core.List.{List, [], _∷_}
@@ -7,7 +8,7 @@ use lib.ListN.{length, replicate}
 use lib.Ieee.{Float}
 use Rattle.util.specs.Some.{someOf}
 use Rattle.util.specs.Refusal.{Cause, Outcome, refused, accepted, outcome, afterwards}
-use Rattle.frame.specs.Format.{formatOf, named, listed}
+use Rattle.frame.specs.Format.{formatOf, named, layoutNamed, listed}
 use Rattle.ieee.specs.Whole.{plusZero}
 use Rattle.model.specs.Range.{someOut}
 use Rattle.interleave.specs.Interleave.{symbolsOf}
@@ -19,6 +20,7 @@ use Rattle.soft.specs.declared.Soft.the-variants.{Done, Refused}
 pub record Asked : Type 0 where
   pub mode : ℕ
   pub kind : ℕ
+  pub layout : ℕ
   pub symbols : Bool
   pub window : ℕ
   pub bits : ℕ
@@ -28,11 +30,12 @@ pub record Asked : Type 0 where
   pub metrics : List Float
   pub soft : List Float
 
-abbrev pub asked : ℕ → ℕ → Bool → ℕ → ℕ → List Float → List ℕ → List Float → List Float → List Float → Asked
-asked mode kind symbols window bits terms counts work metrics soft =
+abbrev pub asked : ℕ → ℕ → ℕ → Bool → ℕ → ℕ → List Float → List ℕ → List Float → List Float → List Float → Asked
+asked mode kind layout symbols window bits terms counts work metrics soft =
     record {
       mode = mode;
       kind = kind;
+      layout = layout;
       symbols = symbols;
       window = window;
       bits = bits;
@@ -63,6 +66,7 @@ meaning (Refused k) = refused k
 abbrev pub causes : Asked → List Cause
 causes a =
     (record { holds = not (named (a .mode) (a .kind)); number = 1 })
+    ∷ (record { holds = not (layoutNamed (a .layout)); number = 12 })
     ∷ (record { holds = ltb 10240 (a .bits); number = 2 })
     ∷ (record { holds = not (listed (a .window) (formatOf (a .mode) .windows)); number = 3 })
     ∷ (record { holds = not (sized a); number = 4 })
@@ -76,7 +80,7 @@ softAnswer a = outcome (causes a) tt
 
 -- the values of what was received
 abbrev pub valuesOf : Asked → ℕ → ℕ → Float
-valuesOf a = valueOf (received (a .mode) (a .kind) (a .window) (a .terms) (a .counts))
+valuesOf a = valueOf (received (a .mode) (a .kind) (a .layout) (a .window) (a .terms) (a .counts))
 
 -- the public entry: the lent lists. The work area ends as zeros.
 abbrev pub metricsAfter : Asked → List Float

@@ -52,10 +52,11 @@ pub enum Soft {
     Refused(u8),
 }
 
-// Public entry: metrics and soft bits of a burst (document 01, 'Metrics and soft bits').
+// Public entry: metrics and soft bits of a burst (document 01, 'Metrics and soft bits'; document 02, #102).
 pub fn soft_values(
     mode: u8,
     kind: u8,
+    layout: u8,
     symbols: bool,
     window: u32,
     bits: u32,
@@ -65,17 +66,20 @@ pub fn soft_values(
     metrics: &mut [f32],
     soft: &mut [f32],
 ) -> Soft
-    ensures answer { λ r. ⌜ meaning r ≡ softAnswer (asked mode kind symbols window bits (now (terms .entry))
+    ensures answer { λ r. ⌜ meaning r ≡ softAnswer (asked mode kind layout symbols window bits (now (terms .entry))
         (now (blanked .entry)) (now (work .entry)) (now (metrics .entry)) (now (soft .entry))) ⌝ }
-    ensures area { λ r. ⌜ now (work .exit) ≡ workAfter (asked mode kind symbols window bits (now (terms .entry))
+    ensures area { λ r. ⌜ now (work .exit) ≡ workAfter (asked mode kind layout symbols window bits (now (terms .entry))
         (now (blanked .entry)) (now (work .entry)) (now (metrics .entry)) (now (soft .entry))) ⌝ }
-    ensures values { λ r. ⌜ now (metrics .exit) ≡ metricsAfter (asked mode kind symbols window bits (now (terms .entry))
+    ensures values { λ r. ⌜ now (metrics .exit) ≡ metricsAfter (asked mode kind layout symbols window bits (now (terms .entry))
         (now (blanked .entry)) (now (work .entry)) (now (metrics .entry)) (now (soft .entry))) ⌝ }
-    ensures bits { λ r. ⌜ now (soft .exit) ≡ softAfter (asked mode kind symbols window bits (now (terms .entry))
+    ensures bits { λ r. ⌜ now (soft .exit) ≡ softAfter (asked mode kind layout symbols window bits (now (terms .entry))
         (now (blanked .entry)) (now (work .entry)) (now (metrics .entry)) (now (soft .entry))) ⌝ }
 {
     if !frame::is_named(mode, kind) {
         return Soft::Refused(1);
+    }
+    if !frame::is_layout(layout) {
+        return Soft::Refused(12);
     }
     if bits > 10240 {
         return Soft::Refused(2);
@@ -102,6 +106,7 @@ pub fn soft_values(
     forms::make(
         mode,
         kind,
+        layout,
         symbols,
         window,
         terms,

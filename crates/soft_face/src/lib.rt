@@ -9,6 +9,7 @@ ghost use Rattle.soft_face.specs.Face.{SoftFace};
 pub fn values(
     mode: u8,
     kind: u8,
+    layout: u8,
     symbols: u8,
     window: u32,
     bits: u32,
@@ -18,12 +19,13 @@ pub fn values(
     metrics: &mut [f32],
     soft: &mut [f32],
 ) -> u32
-    ensures face { λ r. ⌜ SoftFace (asked mode kind (not (eqb symbols 0)) window bits (now (terms .entry)) (now (blanked .entry))
+    ensures face { λ r. ⌜ SoftFace (asked mode kind layout (not (eqb symbols 0)) window bits (now (terms .entry)) (now (blanked .entry))
         (now (work .entry)) (now (metrics .entry)) (now (soft .entry))) r (now (work .exit)) (now (metrics .exit)) (now (soft .exit)) ⌝ }
 {
     match soft::soft_values(
         mode,
         kind,
+        layout,
         symbols != 0,
         window,
         bits,

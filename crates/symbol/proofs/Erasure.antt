@@ -1,9 +1,9 @@
 -- Erasure in whole numbers is the f32 quotient above one half: a quotient of at most 1/2 rounds to at most 1/2, and one above it
 -- is at least 1/2 + 2^-24, which f32 holds. Assumes nothing.
-use Prim.Native.Nat.{ℕ, zero, suc, _*_, _^_, _≤_, _<_}
+use Prim.Native.Nat.{ℕ, zero, suc, _+_, _*_, _/_, _^_, _≤_, _<_}
 use mathlib.Core.Bool.{Bool, true, false, not, true≢false}
 use mathlib.Core.Path.{_≡_, refl, sym, ap, subst, _∙_}
-use native.Mathlib.Nat.{mul-pos}
+use native.Mathlib.Nat.{mul-comm, mul-pos}
 use native.Mathlib.Omega.{arith}
 use borrow.Author.Tests.{ltb-true, ltb-false}
 use lib.Dec.{T, ltb, lit<, eqb·suc-zero}
@@ -17,7 +17,7 @@ use lib.Ieee.Positive.{den-pos}
 use lib.Ieee.Scale.{round-same}
 use Rattle.ieee.proofs.Order.{le-trans, not-lt→le, le→not-lt, not-nan}
 use Rattle.lse.specs.Lse.{float32}
-use Rattle.symbol.specs.Symbol.{erasedOf, oneHalf, blankedFrac, mostlyBlanked}
+use Rattle.symbol.specs.Symbol.{erasedOf, spanOf, oneHalf, blankedFrac, mostlyBlanked}
 
 -- the next float up
 abbrev next : Float
@@ -87,8 +87,22 @@ above-half c d hc h hd = ap (lt oneHalf) (fraction-is c d (omega arith) (omega a
     by true e = is-true _ (is-above c d h hd (ltb-true d (2 * c) e)) ∙ sym e
     by false e = is-false _ (not-above c d h (ltb-false d (2 * c) e)) ∙ sym e
 
--- so of any span and window whose product is a divisor: erasure is the Rust's test of `blanked_frac`
-pub erased-is : (span window count : ℕ) → count < 2 ^ 24 → 0 < span * window → span * window ≤ 2 ^ 23
-    → erasedOf span window count ≡ mostlyBlanked span window count
+-- the audio samples behind a symbol, as the Rust counts them and as document 02 does
+span-is : (k window : ℕ) → window * spanOf k ≡ (6 * k + 1) * window
+unfolding spanOf
+span-is k window =
+    let odd : 2 * (6 * k / 2) + 1 ≡ 6 * k + 1 = omega arith in
+    ap (λ (z : ℕ). window * z) odd ∙ mul-comm window (6 * k + 1)
+
+-- so of any layout and window, as long as so many samples are a divisor: erasure is the Rust's test of `blanked_frac`
+pub erased-is : (k window count : ℕ) → count < 2 ^ 24 → 0 < window → (6 * k + 1) * window ≤ 2 ^ 23
+    → erasedOf k window count ≡ mostlyBlanked k window count
 unfolding erasedOf mostlyBlanked blankedFrac float32
-erased-is span window count hc h hd = sym (above-half count (span * window) hc h hd)
+erased-is k window count hc h hd =
+    sym (ap (λ (d : ℕ). lt oneHalf (fraction count d)) (span-is k window)
+    ∙ above-half count ((6 * k + 1) * window) hc (mul-pos (omega arith) h) hd)
+
+-- layout 1 erases as document 01 does
+pub full-band : (window count : ℕ) → erasedOf 1 window count ≡ ltb (7 * window) (2 * count)
+unfolding erasedOf
+full-band window count = refl

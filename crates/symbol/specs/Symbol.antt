@@ -1,5 +1,5 @@
--- Document 01, 'Metrics and soft bits': what is made of the 32 values of a symbol.
-use Prim.Native.Nat.{ℕ, zero, suc, _*_, _/_, _%_, _^_}
+-- Document 01, 'Metrics and soft bits', and document 02, #102: what is made of the 32 values of a symbol.
+use Prim.Native.Nat.{ℕ, zero, suc, _+_, _*_, _/_, _%_, _^_}
 use mathlib.Core.Bool.{Bool, false}
 use lib.Dec.{eqb, ltb}
 use lib.IntN.{negsuc}
@@ -10,13 +10,18 @@ use Rattle.ieee.specs.Whole.{run}
 use Rattle.ieee.specs.Within.{larger, clamp}
 use Rattle.lse.specs.Lse.{float32, negative, minusInfinity, lseOf}
 
--- a symbol is erased exactly when 2·blanked > 7·window (span is 7)
+-- document 02, #102: in layout k a symbol is erased exactly when 2·blanked > (6k+1)·window; at k = 1 that is document 01's
+-- 2·blanked > 7·window
 unfoldable pub erasedOf : ℕ → ℕ → ℕ → Bool
-erasedOf span window blanked = ltb (span * window) (2 * blanked)
+erasedOf k window blanked = ltb ((6 * k + 1) * window) (2 * blanked)
 
--- the Rust's `blanked_frac` (rx.rs): blanked samples over the span·window behind a symbol, each number an f32 before they are divided
+-- the audio samples behind a sample of the baseband, which takes one of 6k (rx.rs, `blanked_frac`: 2 * (dec / 2) + 1)
+unfoldable pub spanOf : ℕ → ℕ
+spanOf k = 2 * (6 * k / 2) + 1
+
+-- the Rust's `blanked_frac` (rx.rs): blanked samples over those behind a symbol, each number an f32 before they are divided
 unfoldable pub blankedFrac : ℕ → ℕ → ℕ → Float
-blankedFrac span window blanked = div binary32 (float32 blanked) (float32 (span * window))
+blankedFrac k window blanked = div binary32 (float32 blanked) (float32 (window * spanOf k))
 
 -- 0.5, the Rust's BLANK_ERASE (rx/data.rs)
 abbrev pub oneHalf : Float
@@ -24,7 +29,7 @@ oneHalf = fin false 1 (negsuc 0)
 
 -- the Rust's test for erasure: `blanked_frac` above it
 unfoldable pub mostlyBlanked : ℕ → ℕ → ℕ → Bool
-mostlyBlanked span window blanked = lt oneHalf (blankedFrac span window blanked)
+mostlyBlanked k window blanked = lt oneHalf (blankedFrac k window blanked)
 
 -- the greatest of 32
 unfoldable pub greatestOf : (ℕ → Float) → Float

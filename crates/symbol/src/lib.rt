@@ -11,12 +11,11 @@ ghost use Rattle.lse.specs.Lse.{float32, negative};
 ghost use Rattle.symbol.specs.Symbol.{erasedOf, greatestOf, metricOut, bitOf, softBit};
 ghost use Rattle.symbol.specs.Sums.{Summed, softFrom};
 
-// Inside: whether a symbol is mostly blanked, more than half of the span·window samples behind it.
-pub fn erased(span: u64, window: u32, count: u32) -> bool
-    requires { ⌜ span ≤ 255 ⌝ }
-    ensures { λ r. ⌜ r ≡ erasedOf span window count ⌝ }
+// Inside: whether a symbol is mostly blanked, more than half of the (6k+1)·window samples behind it in layout k.
+pub fn erased(layout: u8, window: u32, count: u32) -> bool
+    ensures { λ r. ⌜ r ≡ erasedOf layout window count ⌝ }
 {
-    2 * (count as u64) > span * (window as u64)
+    2 * (count as u64) > (6 * (layout as u64) + 1) * (window as u64)
 }
 
 // The larger of two.

@@ -1,7 +1,7 @@
 -- Of an entry's causes that hold, the one answered is the first in the order of all numbers, since the causes stand in
 -- that order; and it is the lowest where their numbers rise. Assumes nothing.
 use Prim.Native.Nat.{ℕ, suc, _≤_}
-use mathlib.Core.Bool.{Bool, true, false, not, _&&_, true≢false, and-eq-true-iff}
+use mathlib.Core.Bool.{Bool, true, false, true≢false, and-eq-true-iff}
 use mathlib.Core.List.{List, [], _∷_}
 use mathlib.Core.Path.{_≡_, refl, sym, _∙_}
 use native.Mathlib.Omega.{arith}
@@ -12,11 +12,7 @@ use Rattle.util.specs.Some.{someOf}
 use Rattle.util.specs.Refusal.{Cause, Outcome, refused, outcome, precedence, inOrder, placeIn, Before, NoneBefore, NoneBelow, rises, First}
 use Rattle.util.proofs.Choose.{chosen, not-chosen}
 use Rattle.util.proofs.Some.{neither}
-
--- no number stands twice
-distinct : List ℕ → Bool
-distinct [] = true
-distinct (l ∷ ls) = not (someOf (eqb l) ls) && distinct ls
+use Rattle.util.proofs.Distinct.{distinct, distinct-both}
 
 -- no cause has number l
 abbrev Apart : ℕ → List Cause → Type 0
@@ -79,12 +75,11 @@ at-head {A} l order c cs a k same other r rest = by (c .holds) refl
 
 none-before : {A : Type 0} (order : List ℕ) (cs : List Cause) (a : A) (k : ℕ) → distinct order ≡ true → inOrder order cs ≡ true
     → outcome cs a ≡ refused k → NoneBefore order k cs
-unfolding distinct
 none-before [] [] a k d e r = tt
 none-before [] (c ∷ cs) a k d e r = absurd (true≢false (sym e))
 none-before (l ∷ ls) [] a k d e r = tt
 none-before (l ∷ ls) (c ∷ cs) a k d e r =
-    let both = and-eq-true-iff (not (someOf (eqb l) ls)) (distinct ls) .0 d in
+    let both = distinct-both l ls d in
     by (eqb l (c .number)) refl (not-true _ (both .0)) (none-before ls cs a k (both .1)) (λ f. none-before ls (c ∷ cs) a k (both .1) f r)
   where
     by : (t : Bool) → eqb l (c .number) ≡ t → someOf (eqb l) ls ≡ false → (inOrder ls cs ≡ true → outcome cs a ≡ refused k → NoneBefore ls k cs)

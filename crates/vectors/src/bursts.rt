@@ -1,6 +1,7 @@
-// Soft values by a record: what is 128 + form + 2·(kind + 3·mode). The argument has a seed in its lowest 32 bits, then the bit
-// count in 16 bits and the window's number in 8. Terms and counts are worked out from the seed; the answer is a digest of the
-// bits of all metrics and soft bits, each mixed into what came before.
+// Soft values by a record: what is 128 + form + 2·(kind + 3·mode) in layout 1, as was recorded before there were others, and
+// 140 + the same in the layout that the argument's highest byte has. The argument has a seed in its lowest 32 bits, then the
+// bit count in 16 bits and the window's number in 8. Terms and counts are worked out from the seed; the answer is a digest of
+// the bits of all metrics and soft bits, each mixed into what came before.
 // A term from -12.5 to 12.5, by sixteenths.
 fn term(x: u64) -> f32 {
     (((x % 401) as u16) as f32 - 200.0) / 16.0
@@ -12,16 +13,20 @@ fn fill(seed: u64, terms: &mut [f32]) {
     }
 }
 
-// 0 to 7 windows, so that about half of the symbols are erased.
-fn count(seed: u64, window: u32, counts: &mut [u32]) {
+// 0 to 6k+1 in layout k: so many windows blanked erase about half of the symbols.
+fn times(layout: u8, x: u64) -> u32 {
+    (x % (6 * (layout as u64) + 2)) as u32
+}
+
+fn count(seed: u64, layout: u8, window: u32, counts: &mut [u32]) {
     for i in 0..counts.len() {
-        let times = (probe::probe_mix64(seed ^ ((i as u64) << 48)) % 8) as u32;
-        counts[i] = blanked(times, window);
+        let n = times(layout, probe::probe_mix64(seed ^ ((i as u64) << 48)));
+        counts[i] = blanked(n, window);
     }
 }
 
 fn blanked(times: u32, window: u32) -> u32 {
-    if times > 7 {
+    if times > 49 {
         return 0;
     }
     if window > 224 {
@@ -40,6 +45,7 @@ fn digest(begun: u64, list: &[f32]) -> u64 {
 
 fn burst(
     what: u8,
+    layout: u8,
     asked: u64,
     terms: &mut [f32],
     counts: &mut [u32],
@@ -47,14 +53,15 @@ fn burst(
     metrics: &mut [f32],
     soft: &mut [f32],
 ) -> u64 {
-    let window = window_of(what / 6, asked >> 48);
+    let window = window_of(what / 6, (asked >> 48) % 256);
     let seed = asked % 0x1_0000_0000;
     fill(seed, terms);
-    count(seed, window, counts);
+    count(seed, layout, window, counts);
     let bits = ((asked >> 32) % 65536) as u32;
     let k = ion::data::ion_soft_values(
         what / 6,
         what / 2 % 3,
+        layout,
         what % 2,
         window,
         bits,
@@ -85,10 +92,7 @@ fn window_of(mode: u8, number: u64) -> u32 {
     }
 }
 
-pub fn answer(what: u8, asked: u64) -> u64 {
-    if what < 128 {
-        return records::NONE;
-    }
+fn in_layout(layout: u8, what: u8, asked: u64) -> u64 {
     let bits = ((asked >> 32) % 65536) as usize;
     if bits > 320 {
         return records::NONE;
@@ -100,7 +104,8 @@ pub fn answer(what: u8, asked: u64) -> u64 {
     let mut metrics = [0.0f32; 2048];
     let mut soft = [0.0f32; 320];
     burst(
-        what - 128,
+        what,
+        layout,
         asked,
         &mut terms[..260 * n],
         &mut counts[..n],
@@ -108,4 +113,14 @@ pub fn answer(what: u8, asked: u64) -> u64 {
         &mut metrics[..32 * n],
         &mut soft[..bits],
     )
+}
+
+pub fn answer(what: u8, asked: u64) -> u64 {
+    if what < 128 {
+        return records::NONE;
+    }
+    if what < 140 {
+        return in_layout(1, what - 128, asked);
+    }
+    in_layout((asked >> 56) as u8, what - 140, asked)
 }

@@ -13,8 +13,9 @@ fn mult(n: u64) -> u64 {
     if k == 0 { factor } else { records::refusal(k) }
 }
 
-// The CRC of up to 32 bits. From its lowest byte on the argument has mode, kind, length and a zero byte, then the bits.
-fn crc(asked: u64) -> u64 {
+// The CRC of up to 32 bits in a layout. From its lowest byte on the argument has mode, kind, length and a byte that is the
+// layout or 0 (`answer`), then the bits.
+fn crc(layout: u8, asked: u64) -> u64 {
     let bits = burst_file::verdict::bits_of(asked >> 32);
     let n = ((asked >> 16) % 256) as usize;
     if n > 32 {
@@ -24,6 +25,7 @@ fn crc(asked: u64) -> u64 {
     let k = ion::air::ion_crc(
         (asked % 256) as u8,
         ((asked >> 8) % 256) as u8,
+        layout,
         &bits[..n],
         &mut value,
     );
@@ -75,10 +77,11 @@ fn long(what: u8, asked: u64) -> u64 {
     bursts::answer(what, asked)
 }
 
+// What was recorded before there were layouts is asked in layout 1.
 fn answer(what: u8, asked: u64) -> u64 {
     match what {
         0 => mult(asked),
-        1 => crc(asked),
+        1 => crc(1, asked),
         2 => probe::probe_hop(0, asked),
         3 => probe::probe_hop(1, asked),
         4 => probe::probe_scramble(asked),
@@ -90,6 +93,7 @@ fn answer(what: u8, asked: u64) -> u64 {
         10 => probe::probe_bins((asked % 256) as u8),
         11 => probe::probe_has_window((asked % 256) as u8, ((asked >> 8) % 65536) as u32),
         12 | 13 => sending::answer(what, asked),
+        14 => crc(((asked >> 24) % 256) as u8, asked),
         _ => long(what, asked),
     }
 }

@@ -17,12 +17,12 @@ use Rattle.forms.proofs.all_bits.Statement.{statement}
 use Rattle.forms.proofs.all_bits.Tie as tie
 
 abbrev Inv-loop : tie.InvT-loop
-Inv-loop mode kind window terms blanked slots₀ i₀ i-end slots i =
+Inv-loop mode kind layout window terms blanked slots₀ i₀ i-end slots i =
     (i ≤ length blanked) × (length slots ≡ length slots₀)
-    × ((q : ℕ) → q < 5 * i → getD slots q nan ≡ rows 5 (λ i k. softBit true k (valueOf (received mode kind window terms blanked) i)) q)
+    × ((q : ℕ) → q < 5 * i → getD slots q nan ≡ rows 5 (λ i k. softBit true k (valueOf (received mode kind layout window terms blanked) i)) q)
 
 abbrev μ-loop : tie.MeasureT-loop
-μ-loop mode kind window terms blanked slots₀ i₀ i-end slots i = length blanked - i
+μ-loop mode kind layout window terms blanked slots₀ i₀ i-end slots i = length blanked - i
 
 loop-holds : tie.Need-loop-holds Inv-loop μ-loop
 loop-holds c = (omega arith, refl, (λ k h. absurd (not-suc-le-zero h)))
@@ -49,7 +49,7 @@ loop-again c =
     let at = c .before .before .before .before .before .before .before in
     let a = at .before .before .before .before .args in
     let i = at .loop .i in
-    let x : ℕ → ℕ → Float = valueOf (received (a .mode) (a .kind) (a .window) (a .terms .now) (a .blanked .now)) in
+    let x : ℕ → ℕ → Float = valueOf (received (a .mode) (a .kind) (a .layout) (a .window) (a .terms .now) (a .blanked .now)) in
     let own = c .before .before .before .before .before .values in
     let stored = c .before .before .put-bits .ensures in (
       omega arith,

@@ -16,12 +16,12 @@ use Rattle.forms.proofs.all_metrics.Statement.{statement}
 use Rattle.forms.proofs.all_metrics.Tie as tie
 
 abbrev Inv-loop : tie.InvT-loop
-Inv-loop mode kind window terms blanked out₀ i₀ i-end out i =
+Inv-loop mode kind layout window terms blanked out₀ i₀ i-end out i =
     (i ≤ length blanked) × (length out ≡ length out₀)
-    × ((q : ℕ) → q < 32 * i → getD out q nan ≡ rows 32 (λ i. metricOut (valueOf (received mode kind window terms blanked) i)) q)
+    × ((q : ℕ) → q < 32 * i → getD out q nan ≡ rows 32 (λ i. metricOut (valueOf (received mode kind layout window terms blanked) i)) q)
 
 abbrev μ-loop : tie.MeasureT-loop
-μ-loop mode kind window terms blanked out₀ i₀ i-end out i = length blanked - i
+μ-loop mode kind layout window terms blanked out₀ i₀ i-end out i = length blanked - i
 
 loop-holds : tie.Need-loop-holds Inv-loop μ-loop
 loop-holds c = (omega arith, refl, (λ k h. absurd (not-suc-le-zero h)))
@@ -43,7 +43,7 @@ loop-again c =
     let at = c .before .before .before .before .before .before .before in
     let a = at .before .before .before .before .args in
     let i = at .loop .i in
-    let x : ℕ → ℕ → Float = valueOf (received (a .mode) (a .kind) (a .window) (a .terms .now) (a .blanked .now)) in
+    let x : ℕ → ℕ → Float = valueOf (received (a .mode) (a .kind) (a .layout) (a .window) (a .terms .now) (a .blanked .now)) in
     let own = c .before .before .before .before .before .values in
     let stored = c .before .before .put-metrics .ensures in (
       omega arith,
@@ -62,7 +62,7 @@ returns c =
     let at = c .before in
     let start = at .before .before .before .before in
     let a = start .args in
-    let x : ℕ → ℕ → Float = valueOf (received (a .mode) (a .kind) (a .window) (a .terms .now) (a .blanked .now)) in
+    let x : ℕ → ℕ → Float = valueOf (received (a .mode) (a .kind) (a .layout) (a .window) (a .terms .now) (a .blanked .now)) in
     tabled-only (32 * length (a .blanked .now)) (rows 32 (λ i. metricOut (x i))) nan (at .loop .out)
     (at .loop .inv .1 ∙ start .pre .2) (λ q h. at .loop .inv .2 q (omega arith))
 

@@ -44,8 +44,8 @@ returns c =
       record {
         all = values .all-metrics .ensures;
         cut = bits-made (length (a .blanked .now)) (length (a .soft .now))
-            (valueOf (received (a .mode) (a .kind) (a .window) (a .terms .now) (a .blanked .now)))
-            (slots .all-bits .last .1 .1 .1 .1 .1 .0) _ (start .pre .enough)
+            (valueOf (received (a .mode) (a .kind) (a .layout) (a .window) (a .terms .now) (a .blanked .now)))
+            (slots .all-bits .last .1 .1 .1 .1 .1 .1 .0) _ (start .pre .enough)
             (slots .all-bits .ensures .1) (made .before .before .deinterleave .ensures);
       },
     )

@@ -40,7 +40,7 @@ returns c =
     let a = start .args in
     let n = length (a .blanked .now) in
     let b = length (a .soft .now) in
-    let own = valueOf (received (a .mode) (a .kind) (a .window) (a .terms .now) (a .blanked .now)) in
+    let own = valueOf (received (a .mode) (a .kind) (a .layout) (a .window) (a .terms .now) (a .blanked .now)) in
     let metrics = metrics-made n b own _ _ (values .all-metrics .ensures) (back .deinterleave-sym .ensures) in (
       c .before .before .clear .ensures
           ∙ ap (λ (k : ℕ). replicate k plusZero) (ap length (values .all-metrics .ensures) ∙ metrics-long n b own false ∙ sym (start .pre .work)),

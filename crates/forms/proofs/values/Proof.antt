@@ -28,7 +28,7 @@ returns c =
     let a = c .before .before .before .before .before .args in (
       refl,
       λ v h. getD-replicate 32 v plusZero nan h
-          ∙ sym (value-erased (received (a .mode) (a .kind) (a .window) (a .terms .now) (a .blanked .now)) (a .i) v
+          ∙ sym (value-erased (received (a .mode) (a .kind) (a .layout) (a .window) (a .terms .now) (a .blanked .now)) (a .i) v
           (sym (c .before .erased .ensures) ∙ c .if1 .taken)),
     )
 
@@ -61,7 +61,7 @@ returns-2 c =
     let a = at .before .before .before .before .args in (
       c .metrics .ensures .0,
       λ v h. c .metrics .ensures .1 v h
-          ∙ value-kept (received (a .mode) (a .kind) (a .window) (a .terms .now) (a .blanked .now)) (a .i) v _ _ _
+          ∙ value-kept (received (a .mode) (a .kind) (a .layout) (a .window) (a .terms .now) (a .blanked .now)) (a .i) v _ _ _
           (sym (at .erased .ensures) ∙ c .before .before .before .before .if1 .left) (c .before .bins .ensures)
           (c .before .before .hop .ensures) (c .before .before .before .header-symbols .ensures),
     )

@@ -23,16 +23,16 @@ unfolding highFirst
 same f g at zero e = refl
 same f g at (suc n) e = ap₂ (λ (x y : ℕ). 2 * x + y) (same f g at n (λ k h. e k (omega arith))) (e n (omega arith))
 
-good : (mode kind word n last : ℕ) (bits : List ℕ) (r : Bool) → headerBits kind - 16 ≡ n → n + 16 ≤ 64 → 64 ≡ length bits
+good : (mode kind layout word n last : ℕ) (bits : List ℕ) (r : Bool) → headerBits kind - 16 ≡ n → n + 16 ≤ 64 → 64 ≡ length bits
     → ((k : ℕ) → k < 64 → getD bits k 0 ≡ headerBit word k)
-    → last ≡ highFirst (λ k. getD bits k 0) n 16 → r ≡ equals (crcAnswer mode kind (take n bits)) last → r ≡ crcGood mode kind word
+    → last ≡ highFirst (λ k. getD bits k 0) n 16 → r ≡ equals (crcAnswer mode kind layout (take n bits)) last → r ≡ crcGood mode kind layout word
 unfolding crcGood
-good mode kind word n last bits r e small long each l h =
+good mode kind layout word n last bits r e small long each l h =
     h
-    ∙ ap₂ (λ (b : List ℕ) (x : ℕ). equals (crcAnswer mode kind b) x)
+    ∙ ap₂ (λ (b : List ℕ) (x : ℕ). equals (crcAnswer mode kind layout b) x)
     (tabled-only n (headerBit word) 0 (take n bits) (length-take-le n bits (omega arith)) (λ i below. getD-take n bits i 0 below ∙ each i (omega arith)))
     (l ∙ same (λ k. getD bits k 0) (headerBit word) n 16 (λ k below. each (n + k) (omega arith)))
-    ∙ ap (λ (m : ℕ). equals (crcAnswer mode kind (tabled m (headerBit word))) (highFirst (headerBit word) m 16)) (sym e)
+    ∙ ap (λ (m : ℕ). equals (crcAnswer mode kind layout (tabled m (headerBit word))) (highFirst (headerBit word) m 16)) (sym e)
 
 bits-of-requires : tie.Need-bits-of-requires
 bits-of-requires c κs = search needs
@@ -56,7 +56,7 @@ returns : tie.Need-returns
 returns c =
     let b = c .before .before .before .before .before .bits-of in
     let kind = ap (λ (t : Bool). choose t 64 48 - 16) (eq-eqb _ _ (c .before .before .before .before .if1 .taken)) in
-    good _ _ _ 48 (c .before .before .last-sixteen .result) (b .result) (c .agrees .result) kind (omega arith) (b .ensures .0)
+    good _ _ _ _ 48 (c .before .before .last-sixteen .result) (b .result) (c .agrees .result) kind (omega arith) (b .ensures .0)
     (b .ensures .1) (c .before .before .last-sixteen .ensures) (c .agrees .ensures)
 
 slice-aggregate-last-sixteen-2 : tie.Need-slice-aggregate-last-sixteen-2
@@ -78,7 +78,7 @@ returns-2 : tie.Need-returns-2
 returns-2 c =
     let b = c .before .before .before .before .before .bits-of in
     let kind = ap (λ (t : Bool). choose t 64 48 - 16) (ne-eqb _ _ (c .before .before .before .before .if1 .left)) in
-    good _ _ _ 32 (c .before .before .last-sixteen2 .result) (b .result) (c .agrees2 .result) kind (omega arith) (b .ensures .0)
+    good _ _ _ _ 32 (c .before .before .last-sixteen2 .result) (b .result) (c .agrees2 .result) kind (omega arith) (b .ensures .0)
     (b .ensures .1) (c .before .before .last-sixteen2 .ensures) (c .agrees2 .ensures)
 
 pub crc-is-good-spec : {M : Type 1} → statement M

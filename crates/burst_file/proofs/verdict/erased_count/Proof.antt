@@ -18,10 +18,10 @@ unfolding countOf
 next has i n r b e f g = g ∙ ap₂ (λ (t : Bool) (x : ℕ). choose t (x + 1) x) e f ∙ ap (countOf has) (sym (add-one i))
 
 abbrev Inv-loop : tie.InvT-loop
-Inv-loop window counts n₀ i₀ i-end n i = (i ≤ length counts) × (n ≡ countOf (λ k. erasedOf 7 window (getD counts k 0)) i) × (n ≤ i)
+Inv-loop layout window counts n₀ i₀ i-end n i = (i ≤ length counts) × (n ≡ countOf (λ k. erasedOf layout window (getD counts k 0)) i) × (n ≤ i)
 
 abbrev μ-loop : tie.MeasureT-loop
-μ-loop window counts n₀ i₀ i-end n i = length counts - i
+μ-loop layout window counts n₀ i₀ i-end n i = length counts - i
 
 loop-holds : tie.Need-loop-holds Inv-loop μ-loop
 unfolding countOf
@@ -49,7 +49,7 @@ loop-again : tie.Need-loop-again Inv-loop μ-loop
 loop-again c =
     let at = c .before .before .before .before in
     let a = at .before .before .args in
-    let has : ℕ → Bool = λ k. erasedOf 7 (a .window) (getD (a .counts .now) k 0) in (
+    let has : ℕ → Bool = λ k. erasedOf (a .layout) (a .window) (getD (a .counts .now) k 0) in (
       omega arith,
       next has (at .loop .i) (at .loop .n) (c .more .result) (c .before .erased .result) (c .before .erased .ensures) (at .loop .inv .1) (c .more .ensures .0),
       omega (arith, c .more .ensures .1),

@@ -1,4 +1,4 @@
--- `vectors::bursts::blanked` is safe: 7 times 224 fits. Assumes nothing.
+-- `vectors::bursts::blanked` is safe: 49 times 224 fits. Assumes nothing.
 use Prim.Native.Nat.{_≤_}
 use native.Mathlib.Nat.{mul-le-mul-left}
 use native.Mathlib.Omega.{arith}

@@ -8,11 +8,11 @@ use Rattle.vectors.proofs.bursts.count.Statement.{statement}
 use Rattle.vectors.proofs.bursts.count.Tie as tie
 
 abbrev Inv-loop : tie.InvT-loop
-Inv-loop seed window counts₀ i₀ i-end counts i =
+Inv-loop seed layout window counts₀ i₀ i-end counts i =
     (i ≤ length counts₀) × (length counts ≡ length counts₀)
 
 abbrev μ-loop : tie.MeasureT-loop
-μ-loop seed window counts₀ i₀ i-end counts i = length counts₀ - i
+μ-loop seed layout window counts₀ i₀ i-end counts i = length counts₀ - i
 
 loop-holds : tie.Need-loop-holds Inv-loop μ-loop
 loop-holds c = (omega arith, refl)
@@ -20,8 +20,8 @@ loop-holds c = (omega arith, refl)
 probe-mix64-requires : tie.Need-probe-mix64-requires Inv-loop μ-loop
 probe-mix64-requires c κs = search needs
 
-cast-times : tie.Need-cast-times Inv-loop μ-loop
-cast-times c = search needs
+times-requires : tie.Need-times-requires Inv-loop μ-loop
+times-requires c κs = search needs
 
 blanked-requires : tie.Need-blanked-requires Inv-loop μ-loop
 blanked-requires c κs = search needs
@@ -39,7 +39,7 @@ loop-less : tie.Need-loop-less Inv-loop μ-loop
 loop-less c = search needs
 
 loop-again : tie.Need-loop-again Inv-loop μ-loop
-loop-again c = (omega arith, simp length-set (c .before .before .before .loop .inv .1))
+loop-again c = (omega arith, simp length-set (c .before .before .before .before .loop .inv .1))
 
 same-length : tie.Need-same-length Inv-loop μ-loop
 same-length c = search needs
@@ -49,5 +49,5 @@ returns c = search needs
 
 pub count-spec : {M : Type 1} → statement M
 count-spec =
-    tie.close (tie.spec Inv-loop μ-loop loop-holds probe-mix64-requires cast-times blanked-requires mul-counts slice-write-counts add-i loop-less
+    tie.close (tie.spec Inv-loop μ-loop loop-holds probe-mix64-requires times-requires blanked-requires mul-counts slice-write-counts add-i loop-less
     loop-again same-length returns)

@@ -1,4 +1,4 @@
--- `burst_file::layout::put_terms` meets its contract. The invariant: the places passed hold their floats. The measure is what is
+-- `burst_file::format::put_terms` meets its contract. The invariant: the places passed hold their floats. The measure is what is
 -- left of the 260. Assumes nothing.
 use Prim.Native.Nat.{_*_, _-_, _≤_}
 use mathlib.Core.Path.{_≡_, _∙_, ap}
@@ -6,10 +6,10 @@ use native.Mathlib.Omega.{arith}
 use lib.Ieee.{nan, binary32, ofBits}
 use Rattle.util.proofs.Fill.{row-begun, row-more}
 use Rattle.util.specs.Table.{Stored}
-use Rattle.burst_file.specs.Layout.{floatAt}
+use Rattle.burst_file.specs.Numbers.{floatAt}
 use borrow.Author.Needs.{needs}
-use Rattle.burst_file.proofs.layout.put_terms.Statement.{statement}
-use Rattle.burst_file.proofs.layout.put_terms.Tie as tie
+use Rattle.burst_file.proofs.format.put_terms.Statement.{statement}
+use Rattle.burst_file.proofs.format.put_terms.Tie as tie
 
 abbrev Inv-loop : tie.InvT-loop
 Inv-loop bytes terms₀ at i₀ terms i = (i ≤ 260) × Stored nan i at (λ k. floatAt bytes (4 * k)) terms₀ terms

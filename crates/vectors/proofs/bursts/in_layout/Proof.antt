@@ -1,16 +1,13 @@
--- `vectors::bursts::answer` is safe: 320 bits are 64 symbols at most. Assumes nothing.
+-- `vectors::bursts::in_layout` is safe: 320 bits are 64 symbols at most. Assumes nothing.
 use mathlib.Core.Path.{sym}
 use native.Mathlib.Omega.{arith}
 use borrow.Author.Needs.{needs}
 use lib.Seq.{length-take-le}
-use Rattle.vectors.proofs.bursts.answer.Statement.{statement}
-use Rattle.vectors.proofs.bursts.answer.Tie as tie
+use Rattle.vectors.proofs.bursts.in_layout.Statement.{statement}
+use Rattle.vectors.proofs.bursts.in_layout.Tie as tie
 
 returns : tie.Need-returns
 returns c = search needs
-
-returns-2 : tie.Need-returns-2
-returns-2 c = search needs
 
 add-n : tie.Need-add-n
 add-n c = search needs
@@ -57,11 +54,11 @@ slice-aggregate-burst-5 c = sym (length-take-le _ _ (omega arith))
 burst-requires : tie.Need-burst-requires
 burst-requires c κs = search needs
 
-returns-3 : tie.Need-returns-3
-returns-3 c = search needs
+returns-2 : tie.Need-returns-2
+returns-2 c = search needs
 
-pub answer-spec : {M : Type 1} → statement M
-answer-spec =
-    tie.close (tie.spec returns returns-2 add-n mul-terms array-borrow-prefix-terms slice-aggregate-burst array-borrow-prefix-counts
+pub in-layout-spec : {M : Type 1} → statement M
+in-layout-spec =
+    tie.close (tie.spec returns add-n mul-terms array-borrow-prefix-terms slice-aggregate-burst array-borrow-prefix-counts
     slice-aggregate-burst-2 mul-work array-borrow-prefix-work slice-aggregate-burst-3 mul-metrics array-borrow-prefix-metrics slice-aggregate-burst-4
-    array-borrow-prefix-soft slice-aggregate-burst-5 burst-requires returns-3)
+    array-borrow-prefix-soft slice-aggregate-burst-5 burst-requires returns-2)

@@ -1,14 +1,15 @@
 // The numbers in a burst file's bytes, and its head. The file, with the lowest byte of each number first
 // (docs/BURST-FORMAT.md has the table):
-//   4 bytes IONB, version 0, mode, kind, form (0 bits, 1 symbols), 4 bytes of zeros, u32 window, u32 data bits,
+//   4 bytes IONB, version 1, mode, kind, form (0 bits, 1 symbols), layout, 3 bytes of zeros, u32 window, u32 data bits,
 //   260 f32 a header symbol, 260 f32 a data symbol, one u32 of blanked samples a data symbol, and nothing more.
+// Version 0 has a zero in the layout's place, and its bursts are of layout 1.
 ghost use Prim.Native.Nat.{_+_, _*_, _≤_};
 ghost use mathlib.Core.Path.{_≡_};
 ghost use lib.ListN.{length};
 ghost use lib.Ieee.{nan, binary32, ofBits};
 ghost use Rattle.util.specs.Table.{Stored};
-ghost use Rattle.burst_file.specs.Layout.{wordOf, wordAt, floatAt};
-ghost use Rattle.burst_file.specs.Head.{fieldsOf, headOf};
+ghost use Rattle.burst_file.specs.Numbers.{wordOf, wordAt, floatAt};
+ghost use Rattle.burst_file.specs.Head.{unusedOf, layoutOf, fieldsOf, headOf};
 
 // IONB, its first letter lowest.
 const MAGIC: u32 = 0x424E_4F49;
@@ -64,7 +65,7 @@ pub enum Problem {
     Version,
     Form,
     Zeros,
-    // document 01's number
+    // the papers' number
     Refused(u8),
 }
 
@@ -72,6 +73,7 @@ pub enum Problem {
 pub struct Head {
     pub mode: u8,
     pub kind: u8,
+    pub layout: u8,
     pub symbols: bool,
     pub window: u32,
     pub bits: u32,
@@ -82,12 +84,35 @@ pub enum HeadRead {
     Bad(Problem),
 }
 
-// The fields of a head whose layout is right, by document 01's first three refusals.
-fn fields(mode: u8, kind: u8, form: u8, window: u32, bits: u32) -> HeadRead
-    ensures { λ r. ⌜ r ≡ fieldsOf mode kind form window bits ⌝ }
+// What of the four bytes from 8 on must be 0: version 1 has the layout in the first of them.
+fn unused(version: u8, four: u32) -> u32
+    ensures { λ r. ⌜ r ≡ unusedOf version four ⌝ }
+{
+    if version == 0 {
+        return four;
+    }
+    four / 256
+}
+
+// The layout: a burst of version 0 is of the full band.
+fn layout_of(version: u8, byte: u8) -> u8
+    ensures { λ r. ⌜ r ≡ layoutOf version byte ⌝ }
+{
+    if version == 0 {
+        return 1;
+    }
+    byte
+}
+
+// The fields of a head whose bytes are in order, by the papers' first four refusals.
+fn fields(mode: u8, kind: u8, layout: u8, form: u8, window: u32, bits: u32) -> HeadRead
+    ensures { λ r. ⌜ r ≡ fieldsOf mode kind layout form window bits ⌝ }
 {
     if !frame::is_named(mode, kind) {
         return HeadRead::Bad(Problem::Refused(1));
+    }
+    if !frame::is_layout(layout) {
+        return HeadRead::Bad(Problem::Refused(12));
     }
     if bits > 10240 {
         return HeadRead::Bad(Problem::Refused(2));
@@ -98,6 +123,7 @@ fn fields(mode: u8, kind: u8, form: u8, window: u32, bits: u32) -> HeadRead
     HeadRead::Good(Head {
         mode,
         kind,
+        layout,
         symbols: form == 1,
         window,
         bits,
@@ -112,14 +138,21 @@ pub fn head_of(s: &[u8]) -> HeadRead
     if word_at(s, 0) != MAGIC {
         return HeadRead::Bad(Problem::Magic);
     }
-    if s[4] != 0 {
+    if s[4] > 1 {
         return HeadRead::Bad(Problem::Version);
     }
     if s[7] > 1 {
         return HeadRead::Bad(Problem::Form);
     }
-    if word_at(s, 8) != 0 {
+    if unused(s[4], word_at(s, 8)) != 0 {
         return HeadRead::Bad(Problem::Zeros);
     }
-    fields(s[5], s[6], s[7], word_at(s, 12), word_at(s, 16))
+    fields(
+        s[5],
+        s[6],
+        layout_of(s[4], s[8]),
+        s[7],
+        word_at(s, 12),
+        word_at(s, 16),
+    )
 }

@@ -1,8 +1,8 @@
--- `burst_file::layout::word_at` meets its contract: the code is the definition. Assumes nothing.
-use Rattle.burst_file.specs.Layout.{wordAt}
+-- `burst_file::format::word_at` meets its contract: the code is the definition. Assumes nothing.
+use Rattle.burst_file.specs.Numbers.{wordAt}
 use borrow.Author.Needs.{needs}
-use Rattle.burst_file.proofs.layout.word_at.Statement.{statement}
-use Rattle.burst_file.proofs.layout.word_at.Tie as tie
+use Rattle.burst_file.proofs.format.word_at.Statement.{statement}
+use Rattle.burst_file.proofs.format.word_at.Tie as tie
 
 shared-slice-read-word : tie.Need-shared-slice-read-word
 shared-slice-read-word c = search needs

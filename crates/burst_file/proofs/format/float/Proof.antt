@@ -1,4 +1,4 @@
--- `burst_file::layout::float` meets its contract: the test on the pattern is the test for a NaN's, and there is one NaN. Assumes nothing.
+-- `burst_file::format::float` meets its contract: the test on the pattern is the test for a NaN's, and there is one NaN. Assumes nothing.
 use Prim.Native.Nat.{ℕ, _<_, _≤_, _%_}
 use mathlib.Core.Path.{_≡_, refl, sym, subst, _∙_}
 use mathlib.Core.Bool.{Bool, true, false, not, true≢false}
@@ -7,8 +7,8 @@ use lib.Ieee.{Float, nan, inf, fin, binary32, isNan, nanBits, ofBits, div}
 use lib.Ieee.Bits.{nanBits-above, nanBits-is}
 use borrow.Author.Tests.{le-ltb, lt-ltb}
 use borrow.Author.Needs.{needs}
-use Rattle.burst_file.proofs.layout.float.Statement.{statement}
-use Rattle.burst_file.proofs.layout.float.Tie as tie
+use Rattle.burst_file.proofs.format.float.Statement.{statement}
+use Rattle.burst_file.proofs.format.float.Tie as tie
 
 is-nan : (x : Float) → isNan x ≡ true → x ≡ nan
 unfolding isNan
