@@ -106,7 +106,7 @@ uint32_t ion_interleave_sym(const uint8_t *symbols, size_t symbols_len, uint8_t 
 
 /* Reads a header. terms: n*260 floats. Work areas, zeros after an answer: scores, next and start of 16,384 floats, decisions of n*256
  * words. word: header bit j at place j from the lowest, zeros above the last. outcome: ION_SURE, ION_KEPT or ION_OPEN. pass: 1 to 3 for
- * Sure, else 0. score: what the search gives the word. The layout has no part in it: its CRC tells whether the word is of the layout in use.
+ * Sure, else 0. score: what the search gives the word. The layout has no part in it; the word's CRC is good in one layout at most.
  *
  * What is proved of an answer, and under which condition:
  * - Sure in pass 1, any accepted terms: the score is the word's own, added in f32 as the receiver adds it, and no other word, closed or

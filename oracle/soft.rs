@@ -3,7 +3,7 @@
 use super::inputs::{self, dirty, rows};
 use super::face::Soft as Lent;
 use super::{KINDS, MODES, REFUSED, Section, told};
-use ion::phy_mfsk::hook::{air, blanked_frac, soft_terms, windows};
+use ion::phy_mfsk::hook::{Fmt, air, blanked_frac, soft_terms, windows};
 
 unsafe extern "C" {
     fn probe_exp(t: f32) -> f32;
@@ -242,7 +242,7 @@ fn named(wrong: &mut bool) {
 }
 
 /// Every layout, window and count to 255 windows: whether a symbol is erased, seen in its metrics, against the Rust's quotient. A kept
-/// symbol has one value above the others, an erased one none.
+/// symbol has value 0 above the others, an erased one none.
 fn erasures(wrong: &mut bool) {
     let mut r = Random(17);
     let mut s = Section::new("erasure, every layout, window and count to 255 windows");
@@ -252,7 +252,8 @@ fn erasures(wrong: &mut bool) {
                 let counts: Vec<u32> = (0..=255 * window as u32).collect();
                 for part in counts.chunks(2_048) {
                     let mut b = Lent::new(m as u8, 0, layout, 0, window as u32, 5 * part.len() as u32, &mut r);
-                    b.terms.chunks_mut(260).for_each(|t| t[2 * 52 + 10] = 9.0);
+                    let fmt = Fmt::of(mode);
+                    b.terms.chunks_mut(260).enumerate().for_each(|(i, t)| t[2 * 52 + fmt.tone_bin(fmt.hop(48 + i), 0, 0) + 2] = 9.0);
                     b.blanked.copy_from_slice(part);
                     s.pair(b.call(), 0, || b.say());
                     for (metrics, &count) in b.metrics.chunks(32).zip(part) {

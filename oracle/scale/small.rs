@@ -53,7 +53,7 @@ fn crc(c: &mut Check, mode: u8, kind: u8, layout: u8, bits: &mut [u8]) {
     c.one("number", &mut face::crc(mode, kind, layout, bits, &mut crc), want);
     if want == 0 {
         c.one("CRC", &mut crc, air::crc16(&before, air::crc_start(layout as usize, MODES[mode as usize], KINDS[kind as usize])));
-        c.answered(0);
+        c.answered(layout as usize - 1);
     } else {
         c.one("CRC's place", &mut crc, BEFORE as u16);
         c.refused(want);
@@ -175,13 +175,16 @@ fn sent_damaged(o: &Oracle, d: &mut Dice, _: u64, c: &mut Check) {
     sent(c, o, mode, kind, &mut bits, room)
 }
 
+/// What is answered of a CRC is told by its layout k, so that a whole run must meet each.
+const LAYOUTS: [&str; 8] = ["k 1", "k 2", "k 3", "k 4", "k 5", "k 6", "k 7", "k 8"];
+
 pub fn jobs() -> Vec<Job> {
     let job = |entry, source, inputs, numbers, cost, one| Job { entry, source, inputs, kinds: &["answered"], numbers, cost, one };
     vec![
         job("multiplier", "every n", 10_241, &[], 0.001, |_, _, n, c| multiplier(c, n)),
         job("multiplier", "random", 400_000, &[2], 0.0005, multiplier_any),
-        job("CRC", "random", 300_000, &[], 0.01, crc_random),
-        job("CRC", "damaged", 200_000, &[1, 12, 4, 5], 0.004, crc_damaged),
+        Job { kinds: &LAYOUTS, ..job("CRC", "random", 300_000, &[], 0.01, crc_random) },
+        Job { kinds: &LAYOUTS, ..job("CRC", "damaged", 200_000, &[1, 12, 4, 5], 0.004, crc_damaged) },
         job("header sent", "random", 300_000, &[], 0.01, sent_random),
         job("header sent", "damaged", 200_000, &[1, 4, 5], 0.002, sent_damaged),
     ]

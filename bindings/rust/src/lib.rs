@@ -368,8 +368,8 @@ pub fn interleave_sym(symbols: &[u8], values: &mut [u8]) -> Result<(), Refusal> 
     Refusal::told(unsafe { sys::ion_interleave_sym(symbols.as_ptr(), symbols.len(), values.as_mut_ptr(), values.len()) })
 }
 
-/// Reads a header from [`TERMS`] terms for each of its symbols. The layout has no part in it: the word's CRC ([`crc`]) tells whether it is of
-/// the layout in use.
+/// Reads a header from [`TERMS`] terms for each of its symbols. The layout has no part in it; the word's CRC ([`crc`]) is good in one layout
+/// at most.
 ///
 /// ```
 /// use ion_proved::{read_header, Areas, Kind, Mode, Outcome, Refusal, TERMS};
