@@ -81,7 +81,7 @@ uint32_t ion_interleave_mult(uint64_t n, uint64_t *mult);
 /* The CRC of 0 to 1,024 bits, a byte each, in a layout. In a header it stands in the last 16 bits, the first one highest, over the bits
  * before.
  * Proved: layout 1 gives what a receiver without layouts gave. The same bits have the same CRC under no two of the 48 modes, kinds and
- * layouts: a header with a good CRC in one layout has a bad one in every other.
+ * layouts: under one mode and kind a word whose CRC is good in one layout has a bad one in every other.
  * Refused: 1 (mode or kind not named), 12 (layout not from 1 to 8), 4 (over 1,024 bits), 5 (a byte above 1). */
 uint32_t ion_crc(uint8_t mode, uint8_t kind, uint8_t layout, const uint8_t *bits, size_t bits_len, uint16_t *crc);
 
@@ -106,7 +106,8 @@ uint32_t ion_interleave_sym(const uint8_t *symbols, size_t symbols_len, uint8_t 
 
 /* Reads a header. terms: n*260 floats. Work areas, zeros after an answer: scores, next and start of 16,384 floats, decisions of n*256
  * words. word: header bit j at place j from the lowest, zeros above the last. outcome: ION_SURE, ION_KEPT or ION_OPEN. pass: 1 to 3 for
- * Sure, else 0. score: what the search gives the word. The layout has no part in it; the word's CRC is good in one layout at most.
+ * Sure, else 0. score: what the search gives the word. The layout has no part in it; under this mode and kind the word's CRC is
+ * good in one layout at most.
  *
  * What is proved of an answer, and under which condition:
  * - Sure in pass 1, any accepted terms: the score is the word's own, added in f32 as the receiver adds it, and no other word, closed or

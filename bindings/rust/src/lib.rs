@@ -298,8 +298,8 @@ pub fn interleave_mult(n: u64) -> Result<u64, Refusal> {
 /// The CRC of up to 1,024 bits, a byte each, in a layout. In a header it stands in the last 16 bits, the first one highest, over the bits
 /// before.
 ///
-/// Proved: the same bits have the same CRC under no two of the 48 modes, kinds and layouts, so a header with a good CRC in one layout has
-/// a bad one in every other.
+/// Proved: the same bits have the same CRC under no two of the 48 modes, kinds and layouts, so under one mode and kind a word whose CRC is
+/// good in one layout has a bad one in every other.
 ///
 /// ```
 /// use ion_proved::{crc, Kind, Layout, Mode, Refusal};
@@ -368,8 +368,8 @@ pub fn interleave_sym(symbols: &[u8], values: &mut [u8]) -> Result<(), Refusal> 
     Refusal::told(unsafe { sys::ion_interleave_sym(symbols.as_ptr(), symbols.len(), values.as_mut_ptr(), values.len()) })
 }
 
-/// Reads a header from [`TERMS`] terms for each of its symbols. The layout has no part in it; the word's CRC ([`crc`]) is good in one layout
-/// at most.
+/// Reads a header from [`TERMS`] terms for each of its symbols. The layout has no part in it; under this mode and kind the word's CRC
+/// ([`crc`]) is good in one layout at most.
 ///
 /// ```
 /// use ion_proved::{read_header, Areas, Kind, Mode, Outcome, Refusal, TERMS};

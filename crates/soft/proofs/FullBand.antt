@@ -6,7 +6,8 @@ use mathlib.Core.Path.{_≡_, ap, ap₂, fun-ext, _∙_}
 use lib.Ieee.{Float, nan, binary32, add}
 use lib.ListN.{length, getD, drop, replicate}
 use Rattle.util.specs.Choose.{choose}
-use Rattle.util.specs.Refusal.{Outcome, refused, outcome, afterwards}
+use Rattle.util.specs.Refusal.{Outcome, afterwards}
+use Rattle.util.proofs.Choose.{without-second}
 use Rattle.frame.specs.Format.{formatOf, headerBits, named, layoutNamed}
 use Rattle.frame.specs.Air.{hopOf, binOf, placeOf}
 use Rattle.ieee.specs.Whole.{plusZero}
@@ -21,7 +22,8 @@ use Rattle.soft.specs.Base.{baseCauses, baseAnswer, baseValues, AsBefore
 module _ (a : Asked) where
   pub answer-named : layoutNamed (a .layout) ≡ true → softAnswer a ≡ baseAnswer a
   answer-named known =
-      ap (λ (t : Bool). choose (not (named (a .mode) (a .kind))) (refused 1) (choose (not t) (refused 12) (outcome (drop 1 (baseCauses a)) tt))) known
+      without-second (record { holds = not (named (a .mode) (a .kind)); number = 1 })
+      (record { holds = not (layoutNamed (a .layout)); number = 12 }) (drop 1 (baseCauses a)) tt (ap not known)
 
   values-base : a .layout ≡ 1 → (i v : ℕ) → valuesOf a i v ≡ baseValues a i v
   unfolding valueOf

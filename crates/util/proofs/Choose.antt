@@ -1,11 +1,12 @@
 -- What is chosen by a test that is known; and an entry's causes passed one by one. Assumes nothing.
 use Prim.Native.Nat.{ℕ}
 use mathlib.Core.Bool.{Bool, true, false}
+use mathlib.Core.List.{List, _∷_}
 use mathlib.Core.Path.{_≡_, refl, ap}
 use native.Mathlib.Omega.{arith}
 use mir.Val.{boolByte}
 use Rattle.util.specs.Choose.{choose}
-use Rattle.util.specs.Refusal.{Outcome, refused, accepted}
+use Rattle.util.specs.Refusal.{Cause, Outcome, refused, accepted, outcome}
 
 module _ {A : Type 0} {t : Bool} (a b : A) where
   pub chosen : t ≡ true → choose t a b ≡ a
@@ -35,3 +36,7 @@ past-cause true k rest x e =
     let never : _≡_ {A = ℕ} 0 1 = cc in
     absurd (omega arith)
 past-cause false k rest x e = (refl, e)
+
+-- a second cause that is not there may be left out
+pub without-second : {A : Type 0} (c d : Cause) (cs : List Cause) (a : A) → d .holds ≡ false → outcome (c ∷ d ∷ cs) a ≡ outcome (c ∷ cs) a
+without-second c d cs a e = ap (λ (t : Bool). choose (c .holds) (refused (c .number)) (choose t (refused (d .number)) (outcome cs a))) e
