@@ -1,9 +1,9 @@
-/* The receiving core of the ion HF modem and the sending halves of its interleavers, proved: the functions of the static library
- * libion.a (`rt staticlib ion`).
+/* The receiving core of the ion HF modem, the sending halves of its interleavers and its burst slips, proved: the functions of the
+ * static library libion.a (`rt staticlib ion`).
  *
  * Every function takes any numbers and any buffers of the lengths that are told, and ends. It returns 0, or the number of the
  * refusal (ion_refusal has a text for each); of several causes the one that comes first in the order 1, 12, 2, 3, 4, 5, 11, 6, 7, 8, 9,
- * 10. Results and lent buffers are written only where 0 is returned.
+ * 10, 13. Results and lent buffers are written only where 0 is returned.
  *
  * Buffers: a pointer must be valid for its length and aligned as its type asks; with length 0 it may be NULL. Lent buffers must
  * overlap neither each other nor an input. Nothing is kept between calls, so any threads may call at once over buffers of their own.
@@ -31,10 +31,10 @@ extern "C" {
 
 /* The number of the last change request that is in; 0 is the base. Answer, outcome and tracker will grow. The library has the number
  * in a symbol's name, which every file that includes this header asks for: a library of another version does not link. */
-#define ION_VERSION 102
-uint32_t ion_version_102(void);
+#define ION_VERSION 103
+uint32_t ion_version_103(void);
 #if defined(__GNUC__)
-__attribute__((used)) static uint32_t (*const ion_version)(void) = ion_version_102;
+__attribute__((used)) static uint32_t (*const ion_version)(void) = ion_version_103;
 #endif
 
 /* modes, kinds, the form of data, the first and the last layout, what was heard of a symbol, outcomes of a header read */
@@ -46,12 +46,12 @@ enum { ION_MISSED = 0, ION_HEARD = 1 };
 enum { ION_SURE = 0, ION_KEPT = 1, ION_OPEN = 2 };
 
 /* sizes: header symbols (n below, and as many header bits) by kind, data symbols of so many bits and their slots, terms and values of a
- * symbol, places of a score area, words of decisions for each header symbol, the most data bits, data symbols, CRC bits, calls of a
- * tracker (and shifts), blocks */
+ * symbol, places of a score area, words of decisions for each header symbol, bytes of a slip, the most data bits, data symbols, CRC bits,
+ * calls of a tracker (and shifts), blocks */
 #define ION_HEADER_SYMBOLS(kind) ((kind) == ION_DATA ? 64 : 48)
 #define ION_DATA_SYMBOLS(bits) (((size_t)(bits) + 4) / 5)
 #define ION_SLOTS(bits) (5 * ION_DATA_SYMBOLS(bits))
-enum { ION_TERMS = 260, ION_VALUES = 32, ION_STATES = 16384, ION_DECISIONS = 256 };
+enum { ION_TERMS = 260, ION_VALUES = 32, ION_STATES = 16384, ION_DECISIONS = 256, ION_SLIP = 44 };
 enum { ION_MOST_BITS = 10240, ION_MOST_SYMBOLS = 2048, ION_MOST_CRC_BITS = 1024, ION_MOST_CALLS = 2048, ION_MOST_BLOCKS = 64 };
 
 /* What a number says; of 0 that it is no refusal. */
@@ -70,6 +70,7 @@ static inline const char *ion_refusal(uint32_t number) {
         "over 64 blocks, or a block out of range or falling",
         "a symbol value above 31",
         "a layout not from 1 to 8",
+        "bytes that are no slip, or values that no slip holds",
     };
     return number < sizeof text / sizeof *text ? text[number] : "no number of this library";
 }
@@ -121,6 +122,38 @@ uint32_t ion_interleave_sym(const uint8_t *symbols, size_t symbols_len, uint8_t 
 uint32_t ion_read_header(uint8_t mode, uint8_t kind, const float *terms, size_t terms_len, float *scores, size_t scores_len,
                          float *next, size_t next_len, float *start, size_t start_len, uint64_t *decisions, size_t decisions_len,
                          uint64_t *word, uint8_t *outcome, uint8_t *pass, float *score);
+
+/* Writes a slip of 44 bytes: a header as read, with mode and kind, the sample at which its burst starts and its segment's number. Six fields,
+ * each a tag of one byte, a length of two and the value, every number with its highest byte first:
+ *   tag 1 mode, 1 byte; 2 kind, 1; 3 word, 8; 4 outcome, 6: the outcome, the pass, the score's four bytes; 5 start sample, 8; 6 segment, 2.
+ * A slip holds: a mode and a kind that are named; a word with zeros above its 48 bits (64 for ION_DATA); ION_SURE with a pass of 1 to 3,
+ * ION_KEPT or ION_OPEN with 0; a finite score (-0.0 is one, and has its own bytes); any start and segment.
+ * Proved: every answer of ion_read_header is such, with any start and segment. ion_read_slip gives back what was written, bit for bit.
+ * Refused: 4 (slip_len is not 44), 13 (values that no slip holds, an outcome above 2 or a pass that does not go with it among them). */
+uint32_t ion_write_slip(uint8_t mode, uint8_t kind, uint64_t word, uint8_t outcome, uint8_t pass, float score, uint64_t start,
+                        uint16_t segment, uint8_t *slip, size_t slip_len);
+
+/* Reads a slip from a string of bytes of any length.
+ * Proved: 0 is returned exactly where some slip is written as this string, and the values are that slip's. No two strings are one slip.
+ * Refused: 13 (any other string, a wrong mode, kind or length among them). */
+uint32_t ion_read_slip(const uint8_t *slip, size_t slip_len, uint8_t *mode, uint8_t *kind, uint64_t *word, uint8_t *outcome, uint8_t *pass,
+                       float *score, uint64_t *start, uint16_t *segment);
+
+/* A slip's values. */
+typedef struct {
+    uint8_t mode, kind, outcome, pass;
+    uint16_t segment;
+    float score;
+    uint64_t word, start;
+} ion_slip;
+
+/* The same over these. */
+static inline uint32_t ion_slip_to_bytes(const ion_slip *s, uint8_t *slip, size_t slip_len) {
+    return ion_write_slip(s->mode, s->kind, s->word, s->outcome, s->pass, s->score, s->start, s->segment, slip, slip_len);
+}
+static inline uint32_t ion_slip_from_bytes(ion_slip *s, const uint8_t *slip, size_t slip_len) {
+    return ion_read_slip(slip, slip_len, &s->mode, &s->kind, &s->word, &s->outcome, &s->pass, &s->score, &s->start, &s->segment);
+}
 
 /* Metrics and soft bits of a burst of S = ceil(bits/5) data symbols in layout k. symbols: ION_BIT_FORM, anything else symbol form. window:
  * one of the mode's three, in samples of the baseband. terms: S*260. blanked: S counts of blanked audio samples, each over the

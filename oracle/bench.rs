@@ -3,10 +3,12 @@
 #[allow(dead_code)]
 mod face;
 mod inputs;
+mod slip;
 
 use face::{Header, Soft};
-use inputs::{Dice, rows, sample, styled};
+use inputs::{Dice, lawful_slip, rows, sample, styled};
 use ion::phy_mfsk::hook::{Kind, MfskMode, Tracker, air, code, decode_terms, soft_terms};
+use slip::Slip;
 use std::fmt::Write;
 use std::hint::black_box;
 
@@ -131,6 +133,25 @@ fn sending(repeats: usize, name: &str, symbols: bool) {
     line(name, &done);
 }
 
+/// Slips written and read, 10,000 of each a repeat, in nanoseconds a call: median, least, greatest. The Rust has none to take turns with.
+fn slips(repeats: usize) {
+    let mut d = Dice(6 << 50);
+    let slips: Vec<Slip> = (0..10_000).map(|_| lawful_slip(&mut d)).collect();
+    let strings: Vec<Vec<u8>> = slips.iter().map(|s| s.written(44).unwrap()).collect();
+    let (mut bytes, mut back) = ([0; 44], slips[0]);
+    let (mut writes, mut reads) = (Vec::new(), Vec::new());
+    for _ in 0..repeats {
+        let (ms, k) = timed(|| slips.iter().map(|s| face::write_slip(black_box(s), &mut bytes)).max());
+        assert!(k == Some(0) && bytes[..] == strings[9_999][..]);
+        writes.push(ms * 1e6 / 1e4);
+        let (ms, k) = timed(|| strings.iter().map(|s| face::read_slip(black_box(s), &mut back)).max());
+        assert!(k == Some(0) && back == slips[9_999]);
+        reads.push(ms * 1e6 / 1e4);
+    }
+    let told = |times: Vec<f64>| spread(times).map(|t| format!("{t:.0}")).join(", ");
+    println!("slip written, slip read, ns a call: {}; {} (median, least, greatest)", told(writes), told(reads));
+}
+
 const SIZES: [usize; 9] = [64, 128, 256, 512, 768, 1024, 1280, 1536, 2048];
 /// Name and colour of a line of the plot.
 const LINES: [(&str, &str); 4] = [("ours, bit form", "#0b5cad"), ("ours, symbol form", "#58a6e8"), ("the Rust, bit form", "#a33b00"), ("the Rust, symbol form", "#ee8a4a")];
@@ -198,6 +219,7 @@ fn main() {
     tracker(repeats, "tracker, 2,048 calls in R1", 1);
     sending(repeats, "bits sent, 10,240", false);
     sending(repeats, "symbols sent, 2,048", true);
+    slips(repeats);
     let (few, mut lines): (usize, [Vec<f64>; 4]) = (repeats.div_ceil(4), Default::default());
     for n in SIZES {
         for form in 0..2 {

@@ -2,9 +2,12 @@
 // an empty standard output, and status 1 from `burst | grep .`; the file by standard input and by name; the usage; a full device. With a file and the words soft and metrics it prints what the Rust says of the file.
 mod inputs;
 mod made;
+#[allow(dead_code)] // only what writes
+mod slip;
 use ion::fec::conv::ConvCode;
 use ion::phy_mfsk::hook::{air, blanked_frac, code, decode_terms_told, soft_terms, windows};
 use inputs::{Dice, rows};
+use slip::Slip;
 use made::{Burst, DAMAGE, How, KINDS, MODES, made, write, write_older};
 use std::fmt::Write as _;
 use std::io::Write as _;
@@ -16,8 +19,8 @@ fn float(x: f32) -> String {
     format!("{}{}.{:03} ({:08x})", if x.is_sign_negative() { "-" } else { "" }, n / 1000, n % 1000, x.to_bits())
 }
 
-/// What the Rust reads: the word, whether its CRC is good, and the lines.
-fn expected(c: &ConvCode, b: &Burst, soft: bool, metrics: bool) -> (u64, bool, String) {
+/// What the Rust reads: the word, whether its CRC is good, and the lines; the slip's by slip.rs, for a start sample and a segment.
+fn expected(c: &ConvCode, b: &Burst, soft: bool, metrics: bool, told: Option<(u64, u16)>) -> (u64, bool, String) {
     let (mode, kind) = (MODES[b.mode as usize], KINDS[b.kind as usize]);
     let (bits, score, (how, pass, _)) = decode_terms_told(c, mode, kind, &rows(&b.header_terms));
     let word = bits.iter().rev().fold(0, |w, &b| w << 1 | b as u64);
@@ -29,6 +32,10 @@ fn expected(c: &ConvCode, b: &Burst, soft: bool, metrics: bool) -> (u64, bool, S
     let outcome = [format!("Sure, pass {pass}"), "Kept".into(), "Open".into()][how as usize].clone();
     writeln!(s, "header {word:0w$x}\noutcome {outcome}\nscore {}\nCRC {}", float(score), if good { "good" } else { "bad" }, w = bits.len() / 4).unwrap();
     writeln!(s, "data symbols {}, erased {}", blanked.len(), blanked.iter().filter(|&&f| f > 0.5).count()).unwrap();
+    if let Some((start, segment)) = told {
+        let slip = Slip { mode: b.mode, kind: b.kind, word, outcome: how, pass: pass as u8, score: score.to_bits(), start, segment };
+        writeln!(s, "slip {}", slip.written(44).unwrap().iter().map(|b| format!("{b:02x}")).collect::<String>()).unwrap();
+    }
     if soft {
         out.llrs.iter().enumerate().for_each(|(i, x)| writeln!(s, "soft {i}: {}", float(*x)).unwrap());
     }
@@ -90,21 +97,28 @@ fn main() {
     let args: Vec<String> = std::env::args().skip(1).collect();
     if let Some(path) = args.first().filter(|a| a.parse::<u64>().is_err()) {
         let b = std::fs::read(path).map_err(|e| e.to_string()).and_then(|s| made::read(&s)).unwrap_or_else(|why| stop(&format!("{path}: {why}")));
-        print!("{}", expected(&c, &b, args.contains(&"soft".into()), args.contains(&"metrics".into())).2);
+        let number = |i: usize| args.get(i).and_then(|a| a.parse::<u64>().ok()).unwrap_or_else(|| stop("slip needs START and SEGMENT"));
+        let told = args.iter().position(|a| a == "slip").map(|i| (number(i + 1), number(i + 2) as u16));
+        print!("{}", expected(&c, &b, args.contains(&"soft".into()), args.contains(&"metrics".into()), told).2);
         return;
     }
     let all: u64 = args.first().map_or(200, |a| a.parse().unwrap());
     let mut d = Dice(2);
-    let (mut differ, mut floats, mut sent, mut wrong_good, mut outcomes, mut bad, mut older, mut layouts) = (0, 0, 0, 0, [0; 3], 0, 0u64, [0; 8]);
+    let (mut differ, mut floats, mut sent, mut wrong_good, mut outcomes, mut bad, mut older, mut slips, mut layouts) = (0, 0, 0, 0, [0; 3], 0, 0u64, 0u64, [0; 8]);
     for i in 0..all {
         let h = how(i, &mut d);
         let b = made(i, &h);
-        let words = ["", "soft", "metrics", "soft metrics"][(i % 4) as usize];
-        let (word, good, want) = expected(&c, &b, words.contains("soft"), words.contains("metrics"));
+        let start = if d.below(3) == 0 { d.of(&[0, 48_000, u64::MAX]) } else { d.word() };
+        let segment = if d.below(3) == 0 { d.of(&[0, 1, u16::MAX]) } else { d.word() as u16 };
+        let told = (i % 3 > 0).then_some((start, segment));
+        let slip = told.map_or(String::new(), |(start, segment)| format!("slip {start:0w$} {segment}", w = (i % 5) as usize));
+        let words = ["{}", "soft {}", "{} metrics", "soft {} metrics"][(i % 4) as usize].replace("{}", &slip);
+        let (word, good, want) = expected(&c, &b, words.contains("soft"), words.contains("metrics"), told);
+        slips += told.is_some() as u64;
         // what is of layout 1 by turns in a file of either version
         let file = if b.layout == 1 && i % 16 == 0 { write_older(&b) } else { write(&b) };
         older += (file[4] == 0) as u64;
-        let (out, err, status) = if i % 3 == 0 { run(&file, words) } else { run_named(&file, words, i % 3 == 1) };
+        let (out, err, status) = if i % 3 == 0 { run(&file, &words) } else { run_named(&file, &words, i % 3 == 1) };
         sent += (word == b.word) as u64;
         wrong_good += (word != b.word && good) as u64;
         outcomes[["Sure", "Kept", "Open"].iter().position(|o| want.contains(o)).unwrap()] += 1;
@@ -119,7 +133,7 @@ fn main() {
         if made::damage(&mut file, what).is_err() {
             continue;
         }
-        let (out, err, status) = run(&file, words);
+        let (out, err, status) = run(&file, &words);
         bad += 1;
         let told = err.starts_with("burst: ") && err.ends_with('\n') && err.lines().count() == 1 && (number == 0) != err.starts_with(&format!("burst: refused: {number}, "));
         if !out.is_empty() || !told || status != Some(1) {
@@ -128,7 +142,24 @@ fn main() {
         }
     }
     let file = write(&made(0, &How::default()));
-    let usage = "usage: burst [soft] [metrics] [FILE]\n";
+    let usage = "usage: burst [soft] [metrics] [slip START SEGMENT] [FILE]\n";
+    let numbers = format!("burst: slip wants START, a number to 18446744073709551615, and SEGMENT, one to 65535\n{usage}");
+    for words in [
+        "slip", "slip 1", "soft slip", "slip x 1", "slip 1 x", "slip 1 65536", "slip 18446744073709551616 1", "slip 99999999999999999999 1", "slip -1 1", "slip +1 1",
+        "slip 1 -1", "slip '' 1", "slip 1 ''", "slip 1. 1", "slip 0x1 1", "slip soft 1", "slip 1 2 slip 3", "slip 1 65536 slip 1 2",
+    ] {
+        let (out, err, _) = shell(&file, &format!("target/bin/burst {words}"));
+        if !out.is_empty() || !err.starts_with(&numbers) {
+            differ += 1;
+            println!("{words}: {err}{out}");
+        }
+    }
+    // of two slips the second is asked for
+    let (out, err, _) = shell(&file, "target/bin/burst slip 5 6 slip 007 0012");
+    if !err.is_empty() || out.matches("slip ").count() != 1 || !out.ends_with("050008000000000000000706000200 0c\n".replace(' ', "").as_str()) {
+        differ += 1;
+        println!("two slips: {err}{out}");
+    }
     for (what, command, told, is_printed) in [
         ("an unknown word", "target/bin/burst --loud", format!("burst: unknown argument --loud\n{usage}"), false),
         ("a second file", "target/bin/burst loud louder", format!("burst: unknown argument louder\n{usage}"), false),
@@ -145,6 +176,6 @@ fn main() {
             println!("{what}: {err}{out}");
         }
     }
-    println!("{all} bursts, by layout {layouts:?}, {older} of them in files of version 0: {floats} floats; Sure, Kept, Open {outcomes:?}; {sent} words as sent, {wrong_good} others with a good CRC; {bad} damaged files; {differ} differ");
+    println!("{all} bursts, by layout {layouts:?}, {older} of them in files of version 0, {slips} with a slip: {floats} floats; Sure, Kept, Open {outcomes:?}; {sent} words as sent, {wrong_good} others with a good CRC; {bad} damaged files; {differ} differ");
     std::process::exit((differ > 0) as i32);
 }

@@ -7,6 +7,8 @@ mod inputs;
 mod read;
 mod sending;
 mod sent;
+mod slip;
+mod slips;
 mod soft;
 
 // A lent slice is two arguments, its first element and its length.
@@ -214,6 +216,7 @@ fn main() {
     numbers(&mut wrong);
     sent::all(&mut wrong);
     sending::all(&mut wrong);
+    slips::all(&mut wrong);
     soft::all(&mut wrong);
     let headers = std::env::args().nth(1).map_or(2_400, |n| n.parse().expect("how many headers of each style"));
     read::all(&mut wrong, headers);

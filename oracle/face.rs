@@ -1,5 +1,7 @@
 // The C functions of libion.a as include/ion.h declares them, over slices and raw numbers, so that any number can be given.
 // A lent slice is two arguments, its first element and its length.
+use super::slip::Slip;
+
 unsafe extern "C" {
     fn ion_interleave_mult(n: u64, mult: *mut u64) -> u32;
     fn ion_crc(mode: u8, kind: u8, layout: u8, bits: *const u8, bits_len: usize, crc: *mut u16) -> u32;
@@ -13,6 +15,11 @@ unsafe extern "C" {
     fn ion_soft_values(
         mode: u8, kind: u8, layout: u8, symbols: u8, window: u32, bits: u32, terms: *const f32, terms_len: usize, blanked: *const u32, blanked_len: usize,
         work: *mut f32, work_len: usize, metrics: *mut f32, metrics_len: usize, soft: *mut f32, soft_len: usize,
+    ) -> u32;
+    fn ion_write_slip(mode: u8, kind: u8, word: u64, outcome: u8, pass: u8, score: f32, start: u64, segment: u16, slip: *mut u8, slip_len: usize) -> u32;
+    fn ion_read_slip(
+        slip: *const u8, slip_len: usize, mode: *mut u8, kind: *mut u8, word: *mut u64, outcome: *mut u8, pass: *mut u8, score: *mut f32, start: *mut u64,
+        segment: *mut u16,
     ) -> u32;
     fn ion_fit_drift(mode: u8, places: *const u32, places_len: usize, timings: *const f64, timings_len: usize, drift: *mut f64) -> u32;
     fn ion_track_timing(
@@ -93,6 +100,20 @@ impl Soft {
             )
         }
     }
+}
+
+pub fn write_slip(s: &Slip, out: &mut [u8]) -> u32 {
+    let score = f32::from_bits(s.score);
+    unsafe { ion_write_slip(s.mode, s.kind, s.word, s.outcome, s.pass, score, s.start, s.segment, out.as_mut_ptr(), out.len()) }
+}
+
+/// The eight places, as they were where the answer is not 0.
+pub fn read_slip(string: &[u8], s: &mut Slip) -> u32 {
+    let mut score = f32::from_bits(s.score);
+    let (mode, kind, outcome, pass) = (&mut s.mode, &mut s.kind, &mut s.outcome, &mut s.pass);
+    let k = unsafe { ion_read_slip(string.as_ptr(), string.len(), mode, kind, &mut s.word, outcome, pass, &mut score, &mut s.start, &mut s.segment) };
+    s.score = score.to_bits();
+    k
 }
 
 pub fn fit_drift(mode: u8, places: &[u32], timings: &[f64], drift: &mut f64) -> u32 {

@@ -1,6 +1,7 @@
 // Inputs that more than one of the programs here draws: a stream of words, a header's terms in nine styles, terms and counts of soft
 // values in ten and five, and the samples of a tracker's series in eight shapes.
 #![allow(dead_code)] // no program draws all of them
+use super::slip::Slip;
 use ion::phy_mfsk::hook::{Fmt, Kind, MfskMode, Terms, air};
 
 /// A stream of words from a seed.
@@ -143,5 +144,45 @@ pub fn sample(r: &mut Dice, shape: u64, ppm: f64, sym: f64, c: usize, shift: i32
         5 => Some(([0.0, 1e9][r.below(2) as usize], [0.0, 1e9][r.below(2) as usize], [0.0, 1e9, 5e-324][r.below(3) as usize])),
         6 => Some((-0.0, -0.0, 0.0)),
         _ => Some((1e9, 0.0, 0.0)).filter(|_| ppm > 0.0).or(Some((0.0, 1e9, 0.0))),
+    }
+}
+
+/// Numbers at the edges of their bytes, and scores at the edges of what is finite: both zeros, the smallest and the greatest, subnormal and
+/// normal ones; and those that are not, infinities and NaNs, quiet and signalling.
+const EDGES: [u64; 10] = [0, 1, 0xFF, 0x100, 0xFFFF_FFFF, 1 << 47, (1 << 48) - 1, 1 << 48, 1 << 63, u64::MAX];
+const FINITE: [u32; 10] = [0, 0x8000_0000, 1, 0x8000_0001, 0x007F_FFFF, 0x0080_0000, 0x3F80_0000, 0xBF80_0000, 0x7F7F_FFFF, 0xFF7F_FFFF];
+const NOT_FINITE: [u32; 8] = [0x7F80_0000, 0xFF80_0000, 0x7F80_0001, 0xFF80_0001, 0x7FC0_0000, 0xFFC0_0000, 0x7FFF_FFFF, 0xFFFF_FFFF];
+
+/// A slip of any lawful values, the edges among them.
+pub fn lawful_slip(d: &mut Dice) -> Slip {
+    let number = |d: &mut Dice| if d.below(4) == 0 { d.of(&EDGES) } else { d.word() };
+    let (kind, outcome) = (d.below(3) as u8, d.below(3) as u8);
+    Slip {
+        mode: d.below(2) as u8,
+        kind,
+        word: number(d) & if kind == 1 { u64::MAX } else { (1 << 48) - 1 },
+        outcome,
+        pass: if outcome == 0 { 1 + d.below(3) as u8 } else { 0 },
+        score: match d.below(3) {
+            0 => d.of(&FINITE),
+            1 => (d.below(2) as u32) << 31 | d.below(0x7F80_0000) as u32,
+            _ => (d.normal() * 300.0).to_bits(),
+        },
+        start: number(d),
+        segment: number(d) as u16,
+    }
+}
+
+/// Puts in one to three values that a slip does not hold, or not with the others.
+pub fn spoil_slip(d: &mut Dice, s: &mut Slip) {
+    for _ in 0..1 + d.below(3) {
+        match d.below(6) {
+            0 => s.mode = d.of(&[2, 3, 128, 255]),
+            1 => s.kind = d.of(&[0, 1, 2, 3, 4, 255]),
+            2 => s.word |= 1 << (48 + d.below(16)),
+            3 => s.outcome = d.of(&[0, 1, 2, 3, 4, 255]),
+            4 => s.pass = d.of(&[0, 1, 2, 3, 4, 255]),
+            _ => s.score = d.of(&NOT_FINITE),
+        }
     }
 }

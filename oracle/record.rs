@@ -1,7 +1,10 @@
 // Writes recorded answers of the Rust to standard output, 17 bytes a record: for crates/vectors/stdin, or with the word
 // `series` fits and series of the tracker, for crates/series/stdin.
 use ion::phy_mfsk::hook::{Fmt, Kind, MfskMode, Terms, Tracker, air, code, decode_terms, decode_terms_told, blanked_frac, fit_drift, soft_terms, windows};
+use slip::Slip;
 use std::io::Write;
+
+mod slip;
 
 /// The terms that crates/vectors works out from a seed: whole numbers from -2 to 2, with the values of a header raised
 /// by up to 7.
@@ -105,6 +108,77 @@ fn series(mode: MfskMode, seed: u64, calls: usize) -> u64 {
     fields.into_iter().chain(shifts).chain(blocks).fold(h, |h, x| air::mix64(h ^ x))
 }
 
+/// The slip that crates/vectors draws from a seed.
+fn slip_of(seed: u64) -> Slip {
+    let x = drawn(seed, 0);
+    let (kind, outcome, y) = ((x / 2 % 3) as u8, (x / 8 % 3) as u8, drawn(seed, 2));
+    Slip {
+        mode: (x % 2) as u8,
+        kind,
+        word: drawn(seed, 1) >> if kind == 1 { 0 } else { 16 },
+        outcome,
+        pass: if outcome == 0 { 1 + (x / 32 % 3) as u8 } else { 0 },
+        score: (y % 2) as u32 * 0x8000_0000 + (y / 2 % 0x7F80_0000) as u32,
+        start: drawn(seed, 3),
+        segment: (drawn(seed, 4) >> 48) as u16,
+    }
+}
+
+/// The digest that crates/vectors makes of a slip written, one value another, into so many bytes, or its refusal.
+fn slip_written(asked: u64) -> u64 {
+    let (seed, which, room) = (asked % REFUSED, (asked >> 40) as u8, (asked >> 48) % 256);
+    let mut s = slip_of(seed);
+    match (asked >> 32) % 256 {
+        1 => s.mode = which,
+        2 => s.kind = which,
+        3 => s.word |= 1 << which,
+        4 => s.outcome = which,
+        5 => s.pass = which,
+        6 => s.score = [0x8000_0000, 0x7F7F_FFFF, 1, 0x7F80_0000, 0xFF80_0000, 0x7FC0_0000, 0xFF80_0001][which as usize],
+        _ => (),
+    }
+    s.written(room as usize).map_or_else(|k| REFUSED + k as u64, |bytes| bytes.iter().fold(seed, |h, &b| air::mix64(h ^ b as u64)))
+}
+
+/// The digest that crates/vectors makes of a string read, a slip's bytes damaged at one place, cut off or gone on, or its refusal.
+fn slip_read(asked: u64) -> u64 {
+    let (seed, at, with, length) = (asked % REFUSED, (asked >> 32) % 256, (asked >> 40) as u8, (asked >> 48) % 256);
+    let mut string = slip_of(seed).written(44).unwrap();
+    string[at as usize] ^= with;
+    string.resize(length as usize, 0);
+    slip::read(&string).map_or_else(|k| REFUSED + k as u64, |s| {
+        let bytes = [s.mode, s.kind, s.outcome, s.pass].map(u64::from);
+        bytes.into_iter().chain([s.word, s.score as u64, s.start, s.segment as u64]).fold(seed, |h, x| air::mix64(h ^ x))
+    })
+}
+
+/// Document 02, #103: slips of every kind and outcome, and what each side refuses.
+fn slips(put: Put) {
+    let mut seeds = 9000..;
+    let mut next = || seeds.next().unwrap();
+    let mut write = |put: Put, place: u64, which: u64, room: u64| {
+        let asked = next() | place << 32 | which << 40 | room << 48;
+        put(15, asked, slip_written(asked));
+    };
+    (0..24).for_each(|_| write(put, 0, 0, 44));
+    [0, 1, 43, 45, 64].into_iter().for_each(|room| write(put, 0, 0, room));
+    for (place, which) in [(1, 2), (1, 255), (2, 3), (2, 255), (3, 48), (3, 48), (3, 63), (3, 47), (4, 3), (4, 255), (5, 0), (5, 0), (5, 1), (5, 3), (5, 4), (5, 255)] {
+        write(put, place, which, 44);
+    }
+    (0..7).for_each(|which| write(put, 6, which, 44));
+    // 4 comes before 13
+    write(put, 1, 2, 43);
+    write(put, 6, 3, 45);
+    let mut seeds = 9500..;
+    let mut read = |put: Put, at: u64, with: u64, length: u64| {
+        let asked = seeds.next().unwrap() | at << 32 | with << 40 | length << 48;
+        put(152, asked, slip_read(asked));
+    };
+    (0..24).for_each(|_| read(put, 0, 0, 44));
+    [0, 1, 43, 45, 64].into_iter().for_each(|length| read(put, 0, 0, length));
+    (0..44).for_each(|at| read(put, at, 1 << (at % 8), 44));
+}
+
 /// Takes what was asked, its argument and the answer.
 type Put<'a> = &'a mut dyn FnMut(u8, u64, u64);
 
@@ -178,6 +252,7 @@ fn vectors(put: Put) {
         }
     }
     layouts(put);
+    slips(put);
     // how many, places too many, the first one instead
     let bits = [0, 1, 2, 3, 4, 5, 6, 7, 8, 9, 10, 31, 64, 100, 320, 1000, 10_235, 10_238, 10_240].map(|n| (n, 0, 0));
     let refused = [(10_241, 0, 0), (10_241, 1, 2), (5, 1, 0), (5, 1, 2), (5, 0, 2), (5, 0, 255)];

@@ -1,4 +1,5 @@
-// Runs all nine entries side by side at scale: ours through the C functions of libion.a, the Rust's through the hook.
+// Runs all eleven entries side by side at scale: ours through the C functions of libion.a, the Rust's through the hook, and for slips,
+// which the Rust has not, the second writer and reader of slip.rs.
 // Built and run by scale.sh, whose head says what can be asked.
 #[path = "../face.rs"]
 mod face;
@@ -6,6 +7,8 @@ mod face;
 mod inputs;
 #[path = "../made.rs"]
 mod made;
+#[path = "../slip.rs"]
+mod slip;
 
 mod check;
 mod headers;
@@ -13,6 +16,7 @@ mod jobs;
 mod replay;
 mod rivals;
 mod sending;
+mod slips;
 mod small;
 mod soft;
 mod table;
@@ -103,7 +107,7 @@ fn main() {
     if let Some(folder) = &a.replay {
         exit(replay::all(&o, folder, a.plant.map(|p| (p.1, p.2))));
     }
-    let mut jobs: Vec<Job> = small::jobs().into_iter().chain(sending::jobs()).chain(tracker::jobs()).chain(soft::jobs()).chain(headers::jobs()).collect();
+    let mut jobs: Vec<Job> = small::jobs().into_iter().chain(sending::jobs()).chain(slips::jobs()).chain(tracker::jobs()).chain(soft::jobs()).chain(headers::jobs()).collect();
     let names: Vec<String> = jobs.iter().map(|j| j.name()).collect();
     for name in a.only.iter().chain(a.plant.iter().map(|p| &p.0)) {
         if !names.contains(name) {

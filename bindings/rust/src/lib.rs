@@ -1,5 +1,5 @@
-//! The proved receiving core of the ion HF modem and the sending halves of its interleavers, in Rust's own manner: slices, enums and
-//! `Result` over `include/ion.h`.
+//! The proved receiving core of the ion HF modem, the sending halves of its interleavers and its burst slips, in Rust's own manner: slices,
+//! enums and `Result` over `include/ion.h`.
 //!
 //! Build the library first: `rt staticlib ion` at the repository's root. Every function takes any input and ends. One that
 //! answers `Err` has written nothing. No function keeps anything between calls, so any threads may call at once.
@@ -42,16 +42,23 @@ mod sys {
         ) -> u32;
         pub fn ion_interleave(bits: *const u8, bits_len: usize, slots: *mut u8, slots_len: usize) -> u32;
         pub fn ion_interleave_sym(symbols: *const u8, symbols_len: usize, values: *mut u8, values_len: usize) -> u32;
-        pub fn ion_version_102() -> u32;
+        pub fn ion_write_slip(
+            mode: u8, kind: u8, word: u64, outcome: u8, pass: u8, score: f32, start: u64, segment: u16, slip: *mut u8, slip_len: usize,
+        ) -> u32;
+        pub fn ion_read_slip(
+            slip: *const u8, slip_len: usize, mode: *mut u8, kind: *mut u8, word: *mut u64, outcome: *mut u8, pass: *mut u8, score: *mut f32,
+            start: *mut u64, segment: *mut u16,
+        ) -> u32;
+        pub fn ion_version_103() -> u32;
     }
 }
 
 /// The number of the last change request that is in; 0 is the base. The library has it in a symbol's name, so a library of another
 /// version does not link.
-pub const VERSION: u32 = 102;
+pub const VERSION: u32 = 103;
 
 #[used]
-static VERSION_LINKED: unsafe extern "C" fn() -> u32 = sys::ion_version_102;
+static VERSION_LINKED: unsafe extern "C" fn() -> u32 = sys::ion_version_103;
 
 /// Terms of a symbol: five rows of 52.
 pub const TERMS: usize = 260;
@@ -61,6 +68,8 @@ pub const VALUES: usize = 32;
 pub const STATES: usize = 16_384;
 /// Words of decisions for each header symbol.
 pub const DECISIONS: usize = STATES / 64;
+/// Bytes of a slip.
+pub const SLIP: usize = 44;
 /// The most bits that are sent, or that soft values are worked out for.
 pub const BITS: u32 = 10_240;
 /// The most code symbols that are sent.
@@ -154,7 +163,7 @@ pub enum Form {
 }
 
 /// Why nothing was done: the papers' causes. Of several causes, the one whose number comes first in the order 1, 12, 2, 3, 4, 5, 11, 6,
-/// 7, 8, 9, 10.
+/// 7, 8, 9, 10, 13.
 #[derive(Clone, Copy, Debug, PartialEq, Eq, Hash)]
 #[non_exhaustive]
 pub enum Refusal {
@@ -182,15 +191,17 @@ pub enum Refusal {
     Value,
     /// A layout that is not from 1 to 8.
     Layout,
+    /// Bytes that are no slip, or values that no slip holds.
+    Slip,
     /// A number that these bindings have no name for. No function of this version answers one.
     Unnamed(u32),
 }
 
 impl Refusal {
     /// By their numbers, from 1 on.
-    const NAMED: [Refusal; 12] = [
+    const NAMED: [Refusal; 13] = [
         Refusal::Name, Refusal::Count, Refusal::Window, Refusal::Length, Refusal::Bit, Refusal::Term, Refusal::Blanked, Refusal::Sample,
-        Refusal::Tracker, Refusal::Blocks, Refusal::Value, Refusal::Layout,
+        Refusal::Tracker, Refusal::Blocks, Refusal::Value, Refusal::Layout, Refusal::Slip,
     ];
 
     /// The number in the papers.
@@ -199,6 +210,7 @@ impl Refusal {
     /// assert_eq!(ion_proved::Refusal::Blocks.number(), 10);
     /// assert_eq!(ion_proved::Refusal::Value.number(), 11);
     /// assert_eq!(ion_proved::Refusal::Layout.number(), 12);
+    /// assert_eq!(ion_proved::Refusal::Slip.number(), 13);
     /// ```
     pub fn number(self) -> u32 {
         match self {
@@ -230,6 +242,7 @@ impl fmt::Display for Refusal {
             Refusal::Blocks => "over 64 blocks, or a block out of range or falling",
             Refusal::Value => "a symbol value above 31",
             Refusal::Layout => "a layout not from 1 to 8",
+            Refusal::Slip => "bytes that are no slip, or values that no slip holds",
             Refusal::Unnamed(_) => "a number without a name here",
         };
         write!(f, "refused by number {}: {why}", self.number())
@@ -256,6 +269,26 @@ pub enum Outcome {
     Kept { score: f32 },
     /// No closed word was met: the word is no header's.
     Open { score: f32 },
+}
+
+impl Outcome {
+    /// As the library's numbers name it: 0 Sure with its pass, 1 Kept, 2 Open.
+    fn named(outcome: u8, pass: u8, score: f32) -> Outcome {
+        match outcome {
+            0 => Outcome::Sure { score, pass },
+            1 => Outcome::Kept { score },
+            _ => Outcome::Open { score },
+        }
+    }
+
+    /// The same numbers: the outcome's, the pass of a Sure and else 0, the score.
+    fn numbers(self) -> (u8, u8, f32) {
+        match self {
+            Outcome::Sure { score, pass } => (0, pass, score),
+            Outcome::Kept { score } => (1, 0, score),
+            Outcome::Open { score } => (2, 0, score),
+        }
+    }
 }
 
 /// A header as read: bit j of the header at place j from the lowest.
@@ -396,12 +429,69 @@ pub fn read_header(mode: Mode, kind: Kind, terms: &[f32], areas: &mut Areas) -> 
             start.as_mut_ptr(), start.len(), decisions.as_mut_ptr(), decisions.len(), &mut word, &mut outcome, &mut pass, &mut score,
         )
     })?;
-    let outcome = match outcome {
-        0 => Outcome::Sure { score, pass },
-        1 => Outcome::Kept { score },
-        _ => Outcome::Open { score },
-    };
-    Ok(Header { word, outcome })
+    Ok(Header { word, outcome: Outcome::named(outcome, pass, score) })
+}
+
+/// What the shed computer is told of a burst: its header as read, with mode and kind, the sample at which the burst starts, and its
+/// segment's number. It is written as [`SLIP`] bytes: six fields, each a tag of one byte, a length of two and the value, every number with
+/// its highest byte first.
+///
+/// Proved: [`Slip::from_bytes`] reads a string of bytes exactly where some slip is written as it, and as that slip, so no two strings are
+/// one slip; and every answer of [`read_header`] can be written, with any start and segment. A score of -0.0 has bytes of its own, though
+/// it equals 0.0 as a number.
+///
+/// ```
+/// use ion_proved::{Header, Kind, Mode, Outcome, Refusal, SLIP, Slip};
+/// let header = Header { word: 0xC0_0000_0000, outcome: Outcome::Kept { score: 1.0 } };
+/// let slip = Slip { mode: Mode::R0, kind: Kind::HeaderOnly, header, start: 48_000, segment: 7 };
+/// let bytes = slip.to_bytes()?;
+/// assert_eq!(bytes[8..19], [3, 0, 8, 0, 0, 0, 0xC0, 0, 0, 0, 0]);
+/// assert_eq!(Slip::from_bytes(&bytes), Ok(slip));
+/// assert_eq!(Slip::from_bytes(&bytes[..SLIP - 1]), Err(Refusal::Slip));
+///
+/// // a word of 48 bits has zeros above them, and a score is finite
+/// let header = Header { word: 1 << 48, ..header };
+/// assert_eq!(Slip { header, ..slip }.to_bytes(), Err(Refusal::Slip));
+/// let header = Header { word: 0, outcome: Outcome::Open { score: f32::INFINITY } };
+/// assert_eq!(Slip { header, ..slip }.to_bytes(), Err(Refusal::Slip));
+/// # Ok::<(), Refusal>(())
+/// ```
+#[derive(Clone, Copy, Debug, PartialEq)]
+pub struct Slip {
+    pub mode: Mode,
+    pub kind: Kind,
+    pub header: Header,
+    pub start: u64,
+    pub segment: u16,
+}
+
+impl Slip {
+    /// Its bytes; [`Refusal::Slip`] where the word has bits above its own, the score is not finite, or a Sure's pass is not from 1 to 3.
+    pub fn to_bytes(&self) -> Result<[u8; SLIP], Refusal> {
+        let (outcome, pass, score) = self.header.outcome.numbers();
+        let mut bytes = [0; SLIP];
+        // SAFETY: the array is told with its own length.
+        Refusal::told(unsafe {
+            sys::ion_write_slip(
+                self.mode as u8, self.kind as u8, self.header.word, outcome, pass, score, self.start, self.segment, bytes.as_mut_ptr(), SLIP,
+            )
+        })?;
+        Ok(bytes)
+    }
+
+    /// The slip that is written as these bytes; [`Refusal::Slip`] for any others, of whatever length.
+    pub fn from_bytes(bytes: &[u8]) -> Result<Slip, Refusal> {
+        let (mut mode, mut kind, mut word, mut outcome, mut pass, mut score, mut start, mut segment) = (0, 0, 0, 0, 0, 0.0, 0, 0);
+        // SAFETY: the slice is told with its own length; the eight places are one value each, lent for the call.
+        Refusal::told(unsafe {
+            sys::ion_read_slip(
+                bytes.as_ptr(), bytes.len(), &mut mode, &mut kind, &mut word, &mut outcome, &mut pass, &mut score, &mut start, &mut segment,
+            )
+        })?;
+        let mode = if mode == 0 { Mode::R0 } else { Mode::R1 };
+        let kind = [Kind::HeaderOnly, Kind::Data, Kind::Cue][kind as usize];
+        Ok(Slip { mode, kind, header: Header { word, outcome: Outcome::named(outcome, pass, score) }, start, segment })
+    }
 }
 
 /// Metrics ([`VALUES`] a symbol, each in -40..0, relative to the symbol's greatest) and soft bits (each in -12..12) of a burst's data. A soft

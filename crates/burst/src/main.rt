@@ -1,6 +1,7 @@
 // Reads one burst from a file or from standard input and prints what it says: the header's word (bit j at place j), its
-// outcome, score and CRC, how many data symbols there are, and with the words `soft` and `metrics` as arguments the soft
-// bits and the metrics. docs/BURST-FORMAT.md has the file's table and the lines; `burst --help` prints the usage.
+// outcome, score and CRC, how many data symbols there are, and with the words `slip START SEGMENT`, `soft` and `metrics` as
+// arguments the header's slip, the soft bits and the metrics. docs/BURST-FORMAT.md has the file's table and the lines; `burst
+// --help` prints the usage.
 // Everything is worked out before anything is printed. Bad input gets one line on standard error and an empty standard
 // output. A Rattle program cannot choose its exit status: `burst FILE | grep .` ends with 1 where nothing was printed.
 // It needs 3 MB of stack, most of it the lists of the longest burst (it runs under `ulimit -s 3000` and not under 2950).
@@ -96,6 +97,34 @@ fn show_answer(
     burst_lines::symbols(block, out, counts.len(), erased)
 }
 
+// The header's slip where it was asked for. None is refused: every answer of the header read makes a lawful one (crate slip,
+// proofs/Answers.antt).
+fn with_slip(
+    block: &mut [u8],
+    out: Waiting,
+    asked: Asked,
+    head: Head,
+    answer: header::HeaderAnswer,
+) -> Waiting {
+    if !asked.slip {
+        return out;
+    }
+    let mut bytes = [0u8; 44];
+    let outcome = answer.outcome;
+    let told = slip::Slip {
+        mode: head.mode,
+        kind: head.kind,
+        word: answer.word,
+        outcome,
+        start: asked.start,
+        segment: asked.segment,
+    };
+    match slip::write_slip(told, &mut bytes) {
+        slip::Written::Done => burst_lines::slip(block, out, &bytes),
+        slip::Written::Refused(_) => out,
+    }
+}
+
 // The soft bits where they were asked for.
 fn with_soft_bits(block: &mut [u8], out: Waiting, asked: Asked, soft: &[f32]) -> Waiting {
     if asked.soft {
@@ -123,6 +152,7 @@ fn show_burst(
     let mut space = io::large_buffer();
     let block: &mut [u8] = &mut space;
     let out = show_answer(block, head, answer, counts);
+    let out = with_slip(block, out, asked, head, answer);
     let out = with_soft_bits(block, out, asked, soft);
     let out = with_metrics(block, out, asked, metrics);
     output::finish(block, out);
@@ -252,6 +282,10 @@ fn main() {
     let asked = arguments::given();
     if asked.unknown > 0 {
         arguments::refuse(asked.unknown);
+        return;
+    }
+    if asked.misplaced || asked.wanted > 0 {
+        arguments::refuse_numbers();
         return;
     }
     if asked.help {

@@ -6,7 +6,7 @@
 ghost use Prim.Native.Nat.{_+_, _*_, _≤_};
 ghost use mathlib.Core.Path.{_≡_};
 ghost use lib.ListN.{length};
-ghost use lib.Ieee.{nan, binary32, ofBits};
+ghost use lib.Ieee.{nan};
 ghost use Rattle.util.specs.Table.{Stored};
 ghost use Rattle.burst_file.specs.Numbers.{wordOf, wordAt, floatAt};
 ghost use Rattle.burst_file.specs.Head.{unusedOf, layoutOf, fieldsOf, headOf};
@@ -34,23 +34,13 @@ pub fn word_at(s: &[u8], at: usize) -> u32
     word(s[at], s[at + 1], s[at + 2], s[at + 3])
 }
 
-// The float of a pattern. A NaN's is left out of from_bits, which is not defined there.
-fn float(n: u32) -> f32
-    ensures { λ r. ⌜ r ≡ ofBits binary32 n ⌝ }
-{
-    if n % 0x8000_0000 > 0x7F80_0000 {
-        return 0.0 / 0.0;
-    }
-    f32::from_bits(n)
-}
-
 // Inside: stores the 260 terms of a symbol's bytes from a place on.
 pub fn put_terms(bytes: &[u8], terms: &mut [f32], at: usize)
     requires { ⌜ (length (now bytes) ≡ 1040) × (at + 260 ≤ length (now terms)) ⌝ }
     ensures { λ _. ⌜ Stored nan 260 at (λ i. floatAt (now (bytes .entry)) (4 * i)) (now (terms .entry)) (now (terms .exit)) ⌝ }
 {
     for i in 0..260usize {
-        terms[at + i] = float(word_at(bytes, 4 * i));
+        terms[at + i] = wire::float_of(word_at(bytes, 4 * i));
     }
 }
 

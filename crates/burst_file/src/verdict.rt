@@ -5,7 +5,8 @@ ghost use lib.ListN.{length, getD};
 ghost use Rattle.util.specs.Choose.{choose};
 ghost use Rattle.frame.specs.Crc.{crcAnswer};
 ghost use Rattle.symbol.specs.Symbol.{erasedOf};
-ghost use Rattle.burst_file.specs.Verdict.{headerBit, highFirst, equals, crcGood, countOf};
+ghost use Rattle.wire.specs.Bytes.{highFirst};
+ghost use Rattle.burst_file.specs.Verdict.{headerBit, equals, crcGood, countOf};
 
 // Inside: a header word's 64 bits, a byte each, bit 0 first.
 pub fn bits_of(word: u64) -> [u8; 64]
@@ -30,7 +31,7 @@ fn wide(x: u8) -> u64
 // The 16 bits from a place on, the first one highest.
 fn last_sixteen(bits: &[u8], at: usize) -> u64
     requires { ⌜ at + 16 ≤ length (now bits) ⌝ }
-    ensures { λ r. ⌜ r ≡ highFirst (λ k. getD (now (bits .entry)) k 0) at 16 ⌝ }
+    ensures { λ r. ⌜ r ≡ highFirst 2 (λ k. getD (now (bits .entry)) k 0) at 16 ⌝ }
 {
     let mut sum: u64 = 0;
     for k in 0..16usize {

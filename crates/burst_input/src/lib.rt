@@ -1,4 +1,6 @@
-// What the program `burst` is given: its arguments (`arguments`), a burst file (`file`), and what was wrong (`problem`).
+// What the program `burst` is given: its arguments (`arguments`) with their numbers (`decimal`), a burst file (`file`), and what
+// was wrong (`problem`).
 pub mod arguments;
+pub mod decimal;
 pub mod file;
 pub mod problem;

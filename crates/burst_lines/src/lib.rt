@@ -57,6 +57,25 @@ pub fn symbols(block: &mut [u8], out: Waiting, all: usize, erased: u64) -> Waiti
     text(block, out, b"\n")
 }
 
+fn wide(x: u8) -> u64 {
+    x as u64
+}
+
+fn slip_bytes(block: &mut [u8], out: Waiting, bytes: &[u8]) -> Waiting {
+    let mut now = out;
+    for i in 0..bytes.len() {
+        now = hex(block, now, wide(bytes[i]), 2);
+    }
+    now
+}
+
+// Inside: a slip's bytes, two digits each.
+pub fn slip(block: &mut [u8], out: Waiting, bytes: &[u8]) -> Waiting {
+    let out = text(block, out, b"slip ");
+    let out = slip_bytes(block, out, bytes);
+    text(block, out, b"\n")
+}
+
 fn soft_bit(block: &mut [u8], out: Waiting, i: usize, x: f32) -> Waiting {
     let out = counted(block, out, b"soft ", i as u64);
     let out = text(block, out, b": ");

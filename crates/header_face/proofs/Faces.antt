@@ -11,7 +11,9 @@ use Rattle.util.proofs.Number.{not-zero}
 use Rattle.trellis.specs.Terms.{documentSearch}
 use Rattle.trellis.specs.Demand.{Claims}
 use Rattle.header.specs.Read.{Areas, causes, headerRead, areaAfter}
-use Rattle.header_face.specs.Face.{outcomeNumber, passNumber, Lent, lent, answerAt, Faced}
+use Rattle.outcome.specs.Numbers.{outcomeNumber, passNumber}
+use Rattle.outcome.proofs.Back.{named-back}
+use Rattle.header_face.specs.Face.{Lent, lent, answerAt, Faced}
 
 -- the areas, by what the entry says of each
 module _ (o m : Outcome (Answer.Answer Float)) (w w′ : Areas) (e : m ≡ o)
@@ -50,17 +52,12 @@ module _ (o m : Outcome (Answer.Answer Float)) (w w′ : Areas) (e : m ≡ o)
       })
 
 -- what is claimed of the answer is claimed of what the four places hold
-at-places : (word : ℕ) (o : Answer.Outcome Float)
-    → answerAt (lent word (outcomeNumber o) (passNumber o) (scoreIn o)) ≡ record { word = word; outcome = o }
-at-places word (Answer.Sure x pass) = refl
-at-places word (Answer.Kept x) = refl
-at-places word (Answer.Open x) = refl
-
 pub claimed : {mode kind : ℕ} {terms : List Float} {a : Answer.Answer Float} {outcome pass : ℕ} {score : Float} → outcome ≡ outcomeNumber (a .outcome)
     → pass ≡ passNumber (a .outcome) → score ≡ scoreIn (a .outcome) → Claims mode kind terms a
     → Claims mode kind terms (answerAt (lent (a .word) outcome pass score))
 claimed {mode} {kind} {terms} {a} p q r h =
-    subst (Claims mode kind terms) (sym ((λ i. answerAt (lent (a .word) (p i) (q i) (r i))) ∙ at-places (a .word) (a .outcome))) h
+    subst (Claims mode kind terms) (sym ((λ i. answerAt (lent (a .word) (p i) (q i) (r i)))
+    ∙ ap (λ (o : Answer.Outcome Float). record { word = a .word; outcome = o }) (named-back (a .outcome)))) h
 
 -- and a refusal's number is not 0
 pub not-read : (mode kind : ℕ) (terms : List Float) (w : Areas) (k : ℕ) → refused k ≡ headerRead mode kind terms w → k ≡ 0 → ⊥

@@ -2,25 +2,13 @@
 use Prim.Native.Nat.{ℕ}
 use mathlib.Core.List.{List}
 use mathlib.Core.Path.{_≡_}
-use lib.Dec.{eqb}
 use lib.Ieee.{Float}
-use Rattle.util.specs.Choose.{choose}
 use Rattle.util.specs.Refusal.{Outcome, number, place}
 use Rattle.ieee.specs.Whole.{plusZero}
 use Rattle.trellis.specs.Answer as Answer
 use Rattle.trellis.specs.Answer.{scoreIn}
 use Rattle.header.specs.Read.{Areas, headerRead, areaAfter}
-
--- an outcome as numbers: 0 Sure, 1 Kept, 2 Open; the pass of a Sure, else 0
-abbrev pub outcomeNumber : Answer.Outcome Float → ℕ
-outcomeNumber (Answer.Sure x pass) = 0
-outcomeNumber (Answer.Kept x) = 1
-outcomeNumber (Answer.Open x) = 2
-
-abbrev pub passNumber : Answer.Outcome Float → ℕ
-passNumber (Answer.Sure x pass) = pass
-passNumber (Answer.Kept x) = 0
-passNumber (Answer.Open x) = 0
+use Rattle.outcome.specs.Numbers.{outcomeNumber, passNumber, outcomeAt}
 
 -- the four places lent for its answer
 pub record Lent : Type 0 where
@@ -34,11 +22,7 @@ lent word outcome pass score = record { word = word; outcome = outcome; pass = p
 
 -- the answer that they hold
 abbrev pub answerAt : Lent → Answer.Answer Float
-answerAt l =
-    record {
-      word = l .word;
-      outcome = choose (eqb (l .outcome) 0) (Answer.Sure (l .score) (l .pass)) (choose (eqb (l .outcome) 1) (Answer.Kept (l .score)) (Answer.Open (l .score)));
-    }
+answerAt l = record { word = l .word; outcome = outcomeAt (l .outcome) (l .pass) (l .score) }
 
 -- by the entry's outcome o: the number, the four places and the four areas at exit
 pub record Faced (o : Outcome (Answer.Answer Float)) (w w′ : Areas) (was new : Lent) (r : ℕ) : Type 0 where

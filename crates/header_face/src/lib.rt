@@ -1,40 +1,9 @@
 // The header read's face to C: the answer in four places, written only where it is not refused, and its number. The entry itself
 // is crate `header`. Definitions in specs/.
 ghost use mathlib.Core.Path.{_≡_};
-ghost use Rattle.trellis.specs.Answer.{scoreIn};
 ghost use Rattle.trellis.specs.Demand.{Claims};
-ghost use Rattle.header.specs.Read.{outcomeIs, areas};
-ghost use Rattle.header_face.specs.Face.{outcomeNumber, passNumber, lent, answerAt, HeaderFace};
-
-// An outcome as numbers.
-struct Numbers {
-    outcome: u8,
-    pass: u8,
-    score: f32,
-}
-
-fn in_numbers(outcome: header::Outcome) -> Numbers
-    ensures { λ r. ⌜ (r .outcome ≡ outcomeNumber (outcomeIs outcome)) × (r .pass ≡ passNumber (outcomeIs outcome))
-        × (r .score ≡ scoreIn (outcomeIs outcome)) ⌝ }
-{
-    match outcome {
-        header::Outcome::Sure(x, pass) => Numbers {
-            outcome: 0,
-            pass,
-            score: x,
-        },
-        header::Outcome::Kept(x) => Numbers {
-            outcome: 1,
-            pass: 0,
-            score: x,
-        },
-        header::Outcome::Open(x) => Numbers {
-            outcome: 2,
-            pass: 0,
-            score: x,
-        },
-    }
-}
+ghost use Rattle.header.specs.Read.{areas};
+ghost use Rattle.header_face.specs.Face.{lent, answerAt, HeaderFace};
 
 // Inside: the entry as C calls it.
 pub fn read(
@@ -61,7 +30,7 @@ pub fn read(
     match header::read_header(mode, kind, terms, scores, next, start, decisions) {
         header::HeaderRead::Answer(a) => {
             let o = a.outcome;
-            let numbers = in_numbers(o);
+            let numbers = outcome::in_numbers(o);
             *word = a.word;
             *outcome = numbers.outcome;
             *pass = numbers.pass;

@@ -3,6 +3,7 @@
 pub mod air;
 pub mod data;
 pub mod read;
+pub mod slips;
 pub mod timing;
 
 ghost use mathlib.Core.Path.{_≡_};
@@ -10,8 +11,8 @@ ghost use mathlib.Core.Path.{_≡_};
 // The number of the last change request that is in, 0 for the base, in the symbol's name too: a header of another version
 // asks for another symbol and does not link.
 #[no_mangle]
-pub extern "C" fn ion_version_102() -> u32
-    ensures { λ r. ⌜ r ≡ 102 ⌝ }
+pub extern "C" fn ion_version_103() -> u32
+    ensures { λ r. ⌜ r ≡ 103 ⌝ }
 {
-    102
+    103
 }

@@ -41,7 +41,7 @@ module _ (mode kind : ℕ) (terms : List Float) (all : length terms ≡ 260 * he
   abbrev earn : ℕ → ℕ → Float
   earn = header single mode kind (lent terms) .earn
 
-  term-upto : (i : ℕ) → i < 260 * headerBits kind → Upto 1 20 (lent terms i)
+  pub term-upto : (i : ℕ) → i < 260 * headerBits kind → Upto 1 20 (lent terms i)
   term-upto i l =
       let from = le (million true) (lent terms i) in
       let to = le (lent terms i) (million false) in

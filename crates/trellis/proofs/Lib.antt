@@ -1,6 +1,6 @@
 -- Laws of this crate's definitions, for its own proofs and its callers'. A pass from any start scores: Best. What a search hands out: Handed.
 -- The simulation of one search by another: Alike, and from terms on: Metric. f32 for the whole numbers: Exact. Demand 3: Demand, Sent. All accepted
--- terms: Finite, AnyTerms, NearExact, Scaled. That no premise is empty: Runs, Guards, Clean.
+-- terms: Finite, AnyTerms, Answered, NearExact, Scaled. That no premise is empty: Runs, Guards, Clean.
 pub mod Paths
 pub mod Best
 pub mod Handed
@@ -12,6 +12,7 @@ pub mod Demand
 pub mod Sent
 pub mod Finite
 pub mod AnyTerms
+pub mod Answered
 pub mod NearExact
 pub mod Scaled
 pub mod Runs

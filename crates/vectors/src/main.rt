@@ -6,6 +6,7 @@ use libc::STDIN_FILENO;
 mod bursts;
 mod read;
 mod sending;
+mod slips;
 
 fn mult(n: u64) -> u64 {
     let mut factor = 0u64;
@@ -93,6 +94,7 @@ fn answer(what: u8, asked: u64) -> u64 {
         10 => probe::probe_bins((asked % 256) as u8),
         11 => probe::probe_has_window((asked % 256) as u8, ((asked >> 8) % 65536) as u32),
         12 | 13 => sending::answer(what, asked),
+        15 | 152 => slips::answer(what, asked),
         14 => crc(((asked >> 24) % 256) as u8, asked),
         _ => long(what, asked),
     }

@@ -30,7 +30,7 @@ fn wide(x: u8) -> u64 {
     x as u64
 }
 
-fn digest(begun: u64, list: &[u8]) -> u64 {
+pub fn digest(begun: u64, list: &[u8]) -> u64 {
     let mut h = begun;
     for i in 0..list.len() {
         h = probe::probe_mix64(h ^ wide(list[i]));

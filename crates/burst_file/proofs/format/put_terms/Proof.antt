@@ -30,8 +30,8 @@ mul-word-at c = search needs
 word-at-requires : tie.Need-word-at-requires Inv-loop μ-loop
 word-at-requires c κs = search needs
 
-float-requires : tie.Need-float-requires Inv-loop μ-loop
-float-requires c κs = search needs
+float-of-requires : tie.Need-float-of-requires Inv-loop μ-loop
+float-of-requires c κs = search needs
 
 add-terms : tie.Need-add-terms Inv-loop μ-loop
 add-terms c = search needs
@@ -55,7 +55,7 @@ loop-again c =
     let now = c .before .before .before .loop in (
       omega arith,
       row-more nan (now .i) (a .at) (λ k. floatAt (a .bytes .now) (4 * k)) (a .terms .now) (now .terms)
-          (c .float .result) (now .inv .1) (omega arith) (c .float .ensures ∙ ap (ofBits binary32) (c .before .word-at .ensures)),
+          (c .float-of .result) (now .inv .1) (omega arith) (c .float-of .ensures ∙ ap (ofBits binary32) (c .before .word-at .ensures)),
     )
 
 same-length : tie.Need-same-length Inv-loop μ-loop
@@ -75,7 +75,7 @@ put-terms-spec =
     loop-holds
     mul-word-at
     word-at-requires
-    float-requires
+    float-of-requires
     add-terms
     mul-terms
     slice-write-terms

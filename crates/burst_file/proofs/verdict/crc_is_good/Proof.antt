@@ -1,8 +1,8 @@
 -- `burst_file::verdict::crc_is_good` meets its contract: the array's first places are the header's bits. Assumes nothing.
-use Prim.Native.Nat.{ℕ, zero, suc, _+_, _-_, _*_, _≤_, _<_}
+use Prim.Native.Nat.{ℕ, _+_, _-_, _≤_, _<_}
 use mathlib.Core.Bool.{Bool}
 use mathlib.Core.List.{List}
-use mathlib.Core.Path.{_≡_, refl, sym, ap, ap₂, _∙_}
+use mathlib.Core.Path.{_≡_, sym, ap, ap₂, _∙_}
 use native.Mathlib.Omega.{arith}
 use lib.ListN.{length, getD, take}
 use lib.Seq.{length-take-le, getD-take}
@@ -12,27 +12,23 @@ use Rattle.util.specs.Table.{tabled}
 use Rattle.util.proofs.Fill.{tabled-only}
 use Rattle.frame.specs.Format.{headerBits}
 use Rattle.frame.specs.Crc.{crcAnswer}
-use Rattle.burst_file.specs.Verdict.{headerBit, highFirst, equals, crcGood}
+use Rattle.wire.specs.Bytes.{highFirst}
+use Rattle.wire.proofs.Bytes.{same-digits}
+use Rattle.burst_file.specs.Verdict.{headerBit, equals, crcGood}
 use borrow.Author.Needs.{needs}
 use Rattle.burst_file.proofs.verdict.crc_is_good.Statement.{statement}
 use Rattle.burst_file.proofs.verdict.crc_is_good.Tie as tie
 
--- the number depends on its 16 bits alone
-same : (f g : ℕ → ℕ) (at n : ℕ) → ((k : ℕ) → k < n → f (at + k) ≡ g (at + k)) → highFirst f at n ≡ highFirst g at n
-unfolding highFirst
-same f g at zero e = refl
-same f g at (suc n) e = ap₂ (λ (x y : ℕ). 2 * x + y) (same f g at n (λ k h. e k (omega arith))) (e n (omega arith))
-
 good : (mode kind layout word n last : ℕ) (bits : List ℕ) (r : Bool) → headerBits kind - 16 ≡ n → n + 16 ≤ 64 → 64 ≡ length bits
     → ((k : ℕ) → k < 64 → getD bits k 0 ≡ headerBit word k)
-    → last ≡ highFirst (λ k. getD bits k 0) n 16 → r ≡ equals (crcAnswer mode kind layout (take n bits)) last → r ≡ crcGood mode kind layout word
+    → last ≡ highFirst 2 (λ k. getD bits k 0) n 16 → r ≡ equals (crcAnswer mode kind layout (take n bits)) last → r ≡ crcGood mode kind layout word
 unfolding crcGood
 good mode kind layout word n last bits r e small long each l h =
     h
     ∙ ap₂ (λ (b : List ℕ) (x : ℕ). equals (crcAnswer mode kind layout b) x)
     (tabled-only n (headerBit word) 0 (take n bits) (length-take-le n bits (omega arith)) (λ i below. getD-take n bits i 0 below ∙ each i (omega arith)))
-    (l ∙ same (λ k. getD bits k 0) (headerBit word) n 16 (λ k below. each (n + k) (omega arith)))
-    ∙ ap (λ (m : ℕ). equals (crcAnswer mode kind layout (tabled m (headerBit word))) (highFirst (headerBit word) m 16)) (sym e)
+    (l ∙ same-digits 2 (λ k. getD bits k 0) (headerBit word) n n 16 (λ k below. each (n + k) (omega arith)))
+    ∙ ap (λ (m : ℕ). equals (crcAnswer mode kind layout (tabled m (headerBit word))) (highFirst 2 (headerBit word) m 16)) (sym e)
 
 bits-of-requires : tie.Need-bits-of-requires
 bits-of-requires c κs = search needs

@@ -1,25 +1,21 @@
 -- `burst_file::verdict::last_sixteen` meets its contract. The invariant: the sum is that of the bits passed, and small enough.
 -- The measure is what is left of the 16. Assumes nothing.
 use Prim.Native.Nat.{ℕ, _+_, _-_, _*_, _^_, _≤_}
-use mathlib.Core.Path.{_≡_, refl, sym, ap, ap₂, _∙_}
+use mathlib.Core.Path.{_≡_, refl}
 use native.Mathlib.Omega.{arith}
-use native.Mathlib.Numerals.{add-one}
 use lib.Pow.{pow-add, pow-mono}
 use lib.ListN.{getD}
-use Rattle.burst_file.specs.Verdict.{highFirst}
+use Rattle.wire.specs.Bytes.{highFirst}
+use Rattle.wire.proofs.Bytes.{digit-more}
 use borrow.Author.Needs.{needs}
 use Rattle.burst_file.proofs.verdict.last_sixteen.Statement.{statement}
 use Rattle.burst_file.proofs.verdict.last_sixteen.Tie as tie
-
-next : (f : ℕ → ℕ) (at k s r : ℕ) → s ≡ highFirst f at k → r ≡ f (at + k) → 2 * s + r ≡ highFirst f at (k + 1)
-unfolding highFirst
-next f at k s r e g = ap₂ (λ (x y : ℕ). 2 * x + y) e g ∙ ap (highFirst f at) (sym (add-one k))
 
 small : (k s r : ℕ) → s + 255 ≤ 255 * 2 ^ k → r ≤ 255 → 2 * s + r + 255 ≤ 255 * 2 ^ (k + 1)
 small k s r h b = let e : 2 ^ (k + 1) ≡ 2 ^ k * 2 = pow-add 2 k 1 in omega arith
 
 abbrev Inv-loop : tie.InvT-loop
-Inv-loop bits at sum₀ k₀ sum k = (k ≤ 16) × (sum ≡ highFirst (λ j. getD bits j 0) at k) × (sum + 255 ≤ 255 * 2 ^ k)
+Inv-loop bits at sum₀ k₀ sum k = (k ≤ 16) × (sum ≡ highFirst 2 (λ j. getD bits j 0) at k) × (sum + 255 ≤ 255 * 2 ^ k)
 
 abbrev μ-loop : tie.MeasureT-loop
 μ-loop bits at sum₀ k₀ sum k = 16 - k
@@ -56,7 +52,7 @@ loop-again c =
     let at = c .before .before .before in
     let a = at .before .before .args in (
       omega arith,
-      next (λ j. getD (a .bits .now) j 0) (a .at) (at .loop .k) (at .loop .sum) (c .wide .result) (at .loop .inv .1) (c .wide .ensures),
+      digit-more 2 (λ j. getD (a .bits .now) j 0) (a .at) (at .loop .k) (at .loop .sum) (c .wide .result) (at .loop .inv .1) (c .wide .ensures),
       small (at .loop .k) (at .loop .sum) (c .wide .result) (at .loop .inv .2) (omega (arith, at .before .shared-slice-known .given (a .at + at .loop .k))),
     )
 

@@ -1,4 +1,4 @@
--- `burst_file::format::float` meets its contract: the test on the pattern is the test for a NaN's, and there is one NaN. Assumes nothing.
+-- `wire::float_of` meets its contract: the test on the pattern is the test for a NaN's, and there is one NaN. Assumes nothing.
 use Prim.Native.Nat.{ℕ, _<_, _≤_, _%_}
 use mathlib.Core.Path.{_≡_, refl, sym, subst, _∙_}
 use mathlib.Core.Bool.{Bool, true, false, not, true≢false}
@@ -7,8 +7,8 @@ use lib.Ieee.{Float, nan, inf, fin, binary32, isNan, nanBits, ofBits, div}
 use lib.Ieee.Bits.{nanBits-above, nanBits-is}
 use borrow.Author.Tests.{le-ltb, lt-ltb}
 use borrow.Author.Needs.{needs}
-use Rattle.burst_file.proofs.format.float.Statement.{statement}
-use Rattle.burst_file.proofs.format.float.Tie as tie
+use Rattle.wire.proofs.float_of.Statement.{statement}
+use Rattle.wire.proofs.float_of.Tie as tie
 
 is-nan : (x : Float) → isNan x ≡ true → x ≡ nan
 unfolding isNan
@@ -27,13 +27,13 @@ within : (n : ℕ) → n % 2147483648 ≤ 2139095040 → nanBits binary32 n ≡ 
 within n h = nanBits-above binary32 n ∙ le-ltb _ _ h
 
 returns : tie.Need-returns
-returns c = none ∙ sym (is-nan _ (sym (nanBits-is binary32 (c .before .args .n)) ∙ above (c .before .args .n) (c .if1 .taken)))
+returns c = none ∙ sym (is-nan _ (sym (nanBits-is binary32 (c .before .args .pattern)) ∙ above (c .before .args .pattern) (c .if1 .taken)))
 
 float-from-bits-result : tie.Need-float-from-bits-result
-float-from-bits-result c = subst (λ (b : Bool). T (not b)) (sym (within (c .before .args .n) (c .if1 .left))) tt
+float-from-bits-result c = subst (λ (b : Bool). T (not b)) (sym (within (c .before .args .pattern) (c .if1 .left))) tt
 
 returns-2 : tie.Need-returns-2
 returns-2 c = search needs
 
-pub float-spec : {M : Type 1} → statement M
-float-spec = tie.close (tie.spec returns float-from-bits-result returns-2)
+pub float-of-spec : {M : Type 1} → statement M
+float-of-spec = tie.close (tie.spec returns float-from-bits-result returns-2)

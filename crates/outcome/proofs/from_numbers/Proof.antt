@@ -1,0 +1,16 @@
+-- `outcome::from_numbers` meets its contract: each return by the tests that led there. Assumes nothing.
+use borrow.Author.Tests.{eq-eqb, ne-eqb}
+use Rattle.outcome.proofs.from_numbers.Statement.{statement}
+use Rattle.outcome.proofs.from_numbers.Tie as tie
+
+returns : tie.Need-returns
+returns c = rw (eq-eqb _ 0 (c .if1 .taken))
+
+returns-2 : tie.Need-returns-2
+returns-2 c = rw (ne-eqb _ 0 (c .before .if1 .left), eq-eqb _ 1 (c .if2 .taken))
+
+returns-3 : tie.Need-returns-3
+returns-3 c = rw (ne-eqb _ 0 (c .before .if1 .left), ne-eqb _ 1 (c .if2 .left))
+
+pub from-numbers-spec : {M : Type 1} → statement M
+from-numbers-spec = tie.close (tie.spec returns returns-2 returns-3)

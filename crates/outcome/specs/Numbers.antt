@@ -1,0 +1,20 @@
+-- A header's outcome as numbers: 0 Sure, 1 Kept, 2 Open; the pass of a Sure, else 0; and the score (trellis `Answer.scoreIn`).
+use Prim.Native.Nat.{ℕ}
+use lib.Dec.{eqb}
+use lib.Ieee.{Float}
+use Rattle.util.specs.Choose.{choose}
+use Rattle.trellis.specs.Answer.{Outcome, Sure, Kept, Open}
+
+abbrev pub outcomeNumber : Outcome Float → ℕ
+outcomeNumber (Sure x pass) = 0
+outcomeNumber (Kept x) = 1
+outcomeNumber (Open x) = 2
+
+abbrev pub passNumber : Outcome Float → ℕ
+passNumber (Sure x pass) = pass
+passNumber (Kept x) = 0
+passNumber (Open x) = 0
+
+-- the outcome that numbers name
+abbrev pub outcomeAt : ℕ → ℕ → Float → Outcome Float
+outcomeAt outcome pass score = choose (eqb outcome 0) (Sure score pass) (choose (eqb outcome 1) (Kept score) (Open score))

@@ -1,0 +1,62 @@
+-- Every answer of the header read makes a lawful slip, with any start sample and any segment number. Assumes nothing.
+use Prim.Native.Nat.{ℕ, _*_, _^_, _≤_, _<_}
+use mathlib.Core.Bool.{true, not, and-eq-true-iff}
+use mathlib.Core.List.{List}
+use mathlib.Core.Path.{_≡_, refl, sym, ap, subst, _∙_}
+use native.Mathlib.Omega.{arith}
+use borrow.Author.Tests.{eqb-true, le-leb, not-false}
+use lib.Dec.{T, eqb}
+use lib.Ieee.{Float, binary32, fits}
+use lib.Ieee.Bits.{is-true}
+use lib.Ieee.Scale.{finite}
+use lib.ListN.{length}
+use Rattle.util.specs.Refusal.{accepted}
+use Rattle.util.proofs.Choose.{past-cause}
+use Rattle.frame.specs.Format.{named, headerBits}
+use Rattle.model.specs.Range.{someOut}
+use Rattle.trellis.specs.Search.{How, closing, candidate, unclosed, search}
+use Rattle.trellis.specs.Answer.{Answer, outcomeOf, scoreIn}
+use Rattle.trellis.specs.Numbers.{single}
+use Rattle.trellis.specs.Terms.{header, lent, documentSearch}
+use Rattle.trellis.proofs.Handed.{search-short}
+use Rattle.trellis.proofs.Answered.{closing-pass, score-held}
+use Rattle.header.specs.Read.{Areas, lengthsRight, headerRead}
+use Rattle.outcome.specs.Numbers.{outcomeNumber, passNumber}
+use Rattle.slip.specs.Lawful.{passGoes, lawful}
+use Rattle.slip.specs.Slips.{answerFields}
+use Rattle.slip.proofs.Slips.{from-values}
+
+-- the pass goes with the outcome, however the word was found
+goes : (h : How) (x : Float) → ((p : ℕ) → h ≡ closing p → (1 ≤ p) × (p ≤ 3)) → passGoes (outcomeNumber (outcomeOf h x)) (passNumber (outcomeOf h x)) ≡ true
+unfolding passGoes
+goes (closing p) x within = let both = within p refl in rw (le-leb 1 p (both .0), le-leb p 3 (both .1)) refl
+goes candidate x within = refl
+goes unclosed x within = refl
+
+score-is : (h : How) (x : Float) → scoreIn (outcomeOf h x) ≡ x
+score-is (closing p) x = refl
+score-is candidate x = refl
+score-is unclosed x = refl
+
+pub answer-lawful : (mode kind : ℕ) (terms : List Float) (w : Areas) (a : Answer Float) (start segment : ℕ) → start < 2 ^ 64 → segment < 2 ^ 16
+    → headerRead mode kind terms w ≡ accepted a → lawful (answerFields mode kind a start segment) ≡ true
+answer-lawful mode kind terms w a start segment hs hg e =
+    let one = past-cause (not (named mode kind)) 1 _ a e in
+    let two = past-cause (not (lengthsRight kind (length terms) (length (w .scores)) (length (w .next)) (length (w .start)) (length (w .decisions)))) 4 _ a (one .1) in
+    let three = past-cause (someOut terms) 6 _ a (two .1) in
+    let all : length terms ≡ headerBits kind * 260 = eqb-true _ _ (and-eq-true-iff (eqb (length terms) (headerBits kind * 260)) _ .0 (not-false _ (two .0)) .0) in
+    let found = search (header single mode kind (lent terms)) in
+    let held = score-held mode kind terms (omega (arith, all)) (three .0) in
+    let given = three .1 in
+    let is : documentSearch mode kind terms ≡ a = cc in
+    subst (λ (b : Answer Float). lawful (answerFields mode kind b start segment) ≡ true) is
+    (from-values (answerFields mode kind (documentSearch mode kind terms) start segment)
+    (record {
+      of-name = not-false _ (one .0);
+      of-word = search-short (header single mode kind (lent terms));
+      of-pass = goes (found .how) (found .score) (closing-pass (header single mode kind (lent terms)));
+      of-score = subst (λ (x : Float). T (fits binary32 x)) (sym (score-is (found .how) (found .score))) (held .0);
+      is-finite = ap finite (score-is (found .how) (found .score)) ∙ is-true (finite (found .score)) (held .1);
+      of-start = hs;
+      of-segment = hg;
+    }))

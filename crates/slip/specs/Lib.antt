@@ -1,0 +1,4 @@
+-- What a reader must believe of this crate: document 02, #103.
+pub mod Spelling
+pub mod Lawful
+pub mod Slips

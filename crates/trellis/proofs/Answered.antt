@@ -1,0 +1,95 @@
+-- What every answer of a read that is not refused has, whatever its terms: a score that is a finite f32, and, out by closing, a pass from 1
+-- to 3. The score's is the simulation of the search by itself, with its size counted in units of 2 ^ 20, of which a term is at most one; the
+-- terms themselves need not be f32 values, since every sum is rounded to one. Assumes nothing.
+use Prim.Native.Nat.{ℕ, suc, _*_, _^_, _≤_}
+use mathlib.Core.Path.{_≡_, refl, ap, ap₂}
+use mathlib.Core.Bool.{Bool, true, false}
+use mathlib.Core.List.{List}
+use mathlib.Core.Option.{Option, none, some}
+use native.Mathlib.Nat.{mul-le-mul-right}
+use native.Mathlib.Omega.{arith}
+use lib.Dec.{T, lit≤}
+use lib.ListN.{length}
+use lib.Ieee as Ieee
+use lib.Ieee.{Float, binary32, fits}
+use lib.Ieee.Scale.{finite}
+use lib.Ieee.Fits.{add-fits, sub-fits}
+use Rattle.util.specs.Choose.{choose}
+use Rattle.ieee.specs.Size.{Upto}
+use Rattle.ieee.proofs.Sizes.{upto-zero, upto-wider, add-upto, sub-upto}
+use Rattle.frame.specs.Format.{headerBits}
+use Rattle.model.specs.Range.{someOut}
+use Rattle.trellis.specs.Trellis.{Trellis}
+use Rattle.trellis.specs.Search.{closing, Candidate, closesIn, last, best, settled, wordIn, search}
+use Rattle.trellis.specs.Numbers.{single}
+use Rattle.trellis.specs.Terms.{header, lent}
+use Rattle.trellis.proofs.Alike.{Follows}
+use Rattle.trellis.proofs.AnyTerms.{term-upto}
+use Rattle.trellis.proofs.Handed.{passOf}
+use Rattle.trellis.proofs.Metric.{header-alike}
+
+-- ---- the pass
+
+module _ {A : Type 0} (X : Trellis A) where
+  last-most : last X ≤ 2
+  unfolding last
+  last-most = by (closesIn X 0) (closesIn X 1)
+    where
+      by : (c d : Bool) → choose c 0 (choose d 1 2) ≤ 2
+      by true d = lit≤ tt
+      by false true = lit≤ tt
+      by false false = lit≤ tt
+
+  not-closing : (o : Option (Candidate A)) (p : ℕ) → settled X o .how ≡ closing p → ⊥
+  unfolding settled
+  not-closing none p e = let z : _≡_ {A = ℕ} 0 1 = cc in omega arith
+  not-closing (some c) p e = let z : _≡_ {A = ℕ} 0 1 = cc in omega arith
+
+  pub closing-pass : (p : ℕ) → search X .how ≡ closing p → (1 ≤ p) × (p ≤ 3)
+  unfolding search
+  closing-pass p e = by (closesIn X (last X)) e
+    where
+      by : (c : Bool) → choose c (wordIn X (closing (suc (last X))) (last X)) (settled X (best X 3)) .how ≡ closing p → (1 ≤ p) × (p ≤ 3)
+      by true e = let z : suc (last X) ≡ p = ap passOf e in (omega arith, omega (arith, last-most))
+      by false e = absurd (not-closing (best X 3) p e)
+
+-- ---- the score
+
+-- a score, and a term, stand for themselves
+record Held (q : ℕ) (x y : Float) : Type 0 where
+  pub same : x ≡ y
+  pub fits : T (fits binary32 x)
+  pub upto : Upto q 20 x
+
+record Term (q : ℕ) (x y : Float) : Type 0 where
+  pub same : x ≡ y
+  pub upto : Upto q 20 x
+
+follows-self : Follows single single Held Term 4480
+unfolding fits
+follows-self =
+    record {
+      nil = record { same = refl; fits = tt; upto = upto-zero };
+      wider = λ {a} {b} l h. record { same = h .same; fits = h .fits; upto = upto-wider b 20 (h .upto) (mul-le-mul-right (2 ^ 20) l) };
+      term = λ h. record { same = h .same; upto = h .upto };
+      add =
+          λ h k room. record {
+            same = ap₂ (Ieee.add binary32) (h .same) (k .same);
+            fits = add-fits binary32 _ _;
+            upto = add-upto binary32 (h .upto) (k .upto) (omega arith) (lit≤ tt);
+          };
+      sub =
+          λ h k room. record {
+            same = ap₂ (Ieee.sub binary32) (h .same) (k .same);
+            fits = sub-fits binary32 _ _;
+            upto = sub-upto binary32 (h .upto) (k .upto) (omega arith) (lit≤ tt);
+          };
+      gt = λ h k. ap₂ (λ (a b : Float). Ieee.lt b a) (h .same) (k .same);
+    }
+
+pub score-held : (mode kind : ℕ) (terms : List Float) → length terms ≡ 260 * headerBits kind → someOut terms ≡ false
+    → T (fits binary32 (search (header single mode kind (lent terms)) .score)) × T (finite (search (header single mode kind (lent terms)) .score))
+score-held mode kind terms all in-range =
+    let score = header-alike follows-self mode kind 1 (lent terms) (lent terms)
+    (λ i l. record { same = refl; upto = term-upto mode kind terms all in-range i l }) (lit≤ tt) .score in
+    (score .fits, score .upto .finite)
