@@ -9,5 +9,6 @@ named-back (Sure x pass) = refl
 named-back (Kept x) = refl
 named-back (Open x) = refl
 
-pub one-outcome : (o o′ : Outcome Float) → outcomeNumber o ≡ outcomeNumber o′ → passNumber o ≡ passNumber o′ → scoreIn o ≡ scoreIn o′ → o ≡ o′
+pub one-outcome : (o o′ : Outcome Float) → outcomeNumber o ≡ outcomeNumber o′ → passNumber o ≡ passNumber o′ → scoreIn o ≡ scoreIn o′
+    → o ≡ o′
 one-outcome o o′ e f g = sym (named-back o) ∙ (λ i. outcomeAt (e i) (f i) (g i)) ∙ named-back o′

@@ -15,11 +15,12 @@ use Rattle.util.proofs.Choose.{past-cause}
 use Rattle.frame.specs.Format.{named, headerBits}
 use Rattle.model.specs.Range.{someOut}
 use Rattle.trellis.specs.Search.{How, closing, candidate, unclosed, search}
-use Rattle.trellis.specs.Answer.{Answer, outcomeOf, scoreIn}
+use Rattle.trellis.specs.Answer.{Answer, outcomeOf}
 use Rattle.trellis.specs.Numbers.{single}
 use Rattle.trellis.specs.Terms.{header, lent, documentSearch}
-use Rattle.trellis.proofs.Handed.{search-short}
-use Rattle.trellis.proofs.Answered.{closing-pass, score-held}
+use Rattle.trellis.proofs.Handed.{search-short, closing-pass}
+use Rattle.trellis.proofs.Demand.{score-is}
+use Rattle.trellis.proofs.Answered.{score-held}
 use Rattle.header.specs.Read.{Areas, lengthsRight, headerRead}
 use Rattle.outcome.specs.Numbers.{outcomeNumber, passNumber}
 use Rattle.slip.specs.Lawful.{passGoes, lawful}
@@ -27,24 +28,22 @@ use Rattle.slip.specs.Slips.{answerFields}
 use Rattle.slip.proofs.Slips.{from-values}
 
 -- the pass goes with the outcome, however the word was found
-goes : (h : How) (x : Float) → ((p : ℕ) → h ≡ closing p → (1 ≤ p) × (p ≤ 3)) → passGoes (outcomeNumber (outcomeOf h x)) (passNumber (outcomeOf h x)) ≡ true
+goes : (h : How) (x : Float) → ((p : ℕ) → h ≡ closing p → (1 ≤ p) × (p ≤ 3))
+    → passGoes (outcomeNumber (outcomeOf h x)) (passNumber (outcomeOf h x)) ≡ true
 unfolding passGoes
 goes (closing p) x within = let both = within p refl in rw (le-leb 1 p (both .0), le-leb p 3 (both .1)) refl
 goes candidate x within = refl
 goes unclosed x within = refl
 
-score-is : (h : How) (x : Float) → scoreIn (outcomeOf h x) ≡ x
-score-is (closing p) x = refl
-score-is candidate x = refl
-score-is unclosed x = refl
-
 pub answer-lawful : (mode kind : ℕ) (terms : List Float) (w : Areas) (a : Answer Float) (start segment : ℕ) → start < 2 ^ 64 → segment < 2 ^ 16
     → headerRead mode kind terms w ≡ accepted a → lawful (answerFields mode kind a start segment) ≡ true
 answer-lawful mode kind terms w a start segment hs hg e =
     let one = past-cause (not (named mode kind)) 1 _ a e in
-    let two = past-cause (not (lengthsRight kind (length terms) (length (w .scores)) (length (w .next)) (length (w .start)) (length (w .decisions)))) 4 _ a (one .1) in
+    let right = lengthsRight kind (length terms) (length (w .scores)) (length (w .next)) (length (w .start)) (length (w .decisions)) in
+    let two = past-cause (not right) 4 _ a (one .1) in
     let three = past-cause (someOut terms) 6 _ a (two .1) in
-    let all : length terms ≡ headerBits kind * 260 = eqb-true _ _ (and-eq-true-iff (eqb (length terms) (headerBits kind * 260)) _ .0 (not-false _ (two .0)) .0) in
+    let long = and-eq-true-iff (eqb (length terms) (headerBits kind * 260)) _ .0 (not-false right (two .0)) .0 in
+    let all : length terms ≡ headerBits kind * 260 = eqb-true (length terms) (headerBits kind * 260) long in
     let found = search (header single mode kind (lent terms)) in
     let held = score-held mode kind terms (omega (arith, all)) (three .0) in
     let given = three .1 in

@@ -2,14 +2,13 @@
 use Prim.Native.Nat.{ℕ}
 use mathlib.Core.Bool.{true}
 use mathlib.Core.List.{List}
-use mathlib.Core.Path.{_≡_, sym, ap, _∙_}
+use mathlib.Core.Path.{_≡_, ap, _∙_}
 use native.Mathlib.Omega.{arith}
 use lib.ListN.{length}
-use Rattle.util.specs.Refusal.{Outcome, accepted, refused}
+use Rattle.util.specs.Refusal.{accepted}
 use Rattle.slip.specs.Lawful.{lawful}
 use Rattle.slip.specs.Slips.{fieldsOf, written, reading, slipIs}
 use Rattle.slip.specs.declared.Slip.{Slip}
-use Rattle.slip.specs.declared.Fields.{Fields}
 use Rattle.slip.specs.declared.SlipRead.{SlipRead}
 use Rattle.slip.specs.declared.SlipRead.the-variants.{Good, Refused}
 use Rattle.slip.proofs.Numbers.{one-slip}

@@ -18,7 +18,6 @@ use Rattle.outcome.proofs.Back.{one-outcome}
 use Rattle.slip.specs.Lawful.{passGoes}
 use Rattle.slip.specs.Slips.{fieldsOf}
 use Rattle.slip.specs.declared.Slip.{Slip}
-use Rattle.slip.specs.declared.Fields.{Fields}
 
 pub record Back (outcome pass : ℕ) (score : Float) (o : Answer.Outcome Float) : Type 0 where
   pub of-outcome : outcomeNumber o ≡ outcome
@@ -55,6 +54,6 @@ its-own (Open x) = refl
 pub one-slip : (s t : Slip) → fieldsOf s ≡ fieldsOf t → s ≡ t
 one-slip s t e =
     let same : outcomeIs (s .outcome) ≡ outcomeIs (t .outcome) =
-    one-outcome (outcomeIs (s .outcome)) (outcomeIs (t .outcome)) (ap (λ (f : Fields). f .outcome) e) (ap (λ (f : Fields). f .pass) e) (ap (λ (f : Fields). f .score) e) in
+    one-outcome (outcomeIs (s .outcome)) (outcomeIs (t .outcome)) (λ i. e i .outcome) (λ i. e i .pass) (λ i. e i .score) in
     let outcome : s .outcome ≡ t .outcome = sym (its-own (s .outcome)) ∙ ap named same ∙ its-own (t .outcome) in
     λ i. record { mode = e i .mode; kind = e i .kind; word = e i .word; outcome = outcome i; start = e i .start; segment = e i .segment }

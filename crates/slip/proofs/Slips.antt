@@ -105,7 +105,8 @@ taken-back f e =
     let name = small-name (f .mode) (f .kind) (v .of-name) in
     let pass = small-pass (f .outcome) (f .pass) (v .of-pass) in
     let word : numberAt (spell f) 11 8 ≡ f .word = read-back (spell f) 11 8 (f .word) refl (small-word (f .kind) (f .word) (v .of-word)) in
-    let pattern : numberAt (spell f) 24 4 ≡ toBits binary32 (f .score) = read-back (spell f) 24 4 (toBits binary32 (f .score)) refl (toBits-lt binary32 (f .score) (v .of-score)) in
+    let bits = toBits binary32 (f .score) in
+    let pattern : numberAt (spell f) 24 4 ≡ bits = read-back (spell f) 24 4 bits refl (toBits-lt binary32 (f .score) (v .of-score)) in
     let start : numberAt (spell f) 31 8 ≡ f .start = read-back (spell f) 31 8 (f .start) refl (v .of-start) in
     let segment : numberAt (spell f) 42 2 ≡ f .segment = read-back (spell f) 42 2 (f .segment) refl (v .of-segment) in
     λ i. record {

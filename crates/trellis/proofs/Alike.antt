@@ -15,6 +15,7 @@ use Rattle.trellis.specs.Search.{How, closing, Candidate, Found, brings,
 use Rattle.trellis.specs.Search.{closes, scoreOf, gainOf, beats, candidates, lowered, begin, closesIn, last, best, wordIn, settled, search}
 use Rattle.trellis.proofs.Paths.{trace-start-cong, trace-word-cong, trace-start-lt}
 use Rattle.trellis.proofs.Best.{highest-up-to, highest-lt}
+use Rattle.trellis.proofs.Handed.{last-most}
 
 -- `R q x z` says of scores, and `W q x z` of what is added to them, that x stands for z and that they are at most q large: up to `cap` sums and
 -- differences do so too, and the tests agree.
@@ -225,15 +226,6 @@ module _ {A B : Type 0} {S : Scale A} {Z : Scale B} {R W : ℕ → A → B → T
     settled-alike neither = wordIn-alike _ 2 (omega arith)
     settled-alike (both w r) = record { how = refl; word = w; score = r }
 
-    last-most : last X ≤ 2
-    unfolding last
-    last-most = go (closesIn X 0) (closesIn X 1)
-      where
-        go : (c d : Bool) → choose c 0 (choose d 1 2) ≤ 2
-        go true d = omega arith
-        go false true = omega arith
-        go false false = omega arith
-
     -- SIMULATION, of a pass and of the whole search
     pub pass-alike : (k : ℕ) → k ≤ 2 → SamePass (R cap) X Y k
     pass-alike k h =
@@ -252,7 +244,7 @@ module _ {A B : Type 0} {S : Scale A} {Z : Scale B} {R W : ℕ → A → B → T
     pub search-alike : Same (R cap) (search X) (search Y)
     unfolding search
     search-alike =
-        let w = wordIn-alike (closing (suc (last X))) (last X) last-most in
-        choose-alike (Same (R cap)) _ _ (closesIn-alike (last X) last-most ∙ ap (closesIn Y) last-alike)
+        let w = wordIn-alike (closing (suc (last X))) (last X) (last-most X) in
+        choose-alike (Same (R cap)) _ _ (closesIn-alike (last X) (last-most X) ∙ ap (closesIn Y) last-alike)
         (subst (λ (k : ℕ). Same (R cap) (wordIn X (closing (suc (last X))) (last X)) (wordIn Y (closing (suc k)) k)) last-alike w)
         (settled-alike (best-alike 3 (omega arith)))

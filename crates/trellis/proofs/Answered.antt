@@ -1,11 +1,10 @@
--- What every answer of a read that is not refused has, whatever its terms: a score that is a finite f32, and, out by closing, a pass from 1
--- to 3. The score's is the simulation of the search by itself, with its size counted in units of 2 ^ 20, of which a term is at most one; the
--- terms themselves need not be f32 values, since every sum is rounded to one. Assumes nothing.
-use Prim.Native.Nat.{ℕ, suc, _*_, _^_, _≤_}
-use mathlib.Core.Path.{_≡_, refl, ap, ap₂}
-use mathlib.Core.Bool.{Bool, true, false}
+-- The score of every answer that is not refused is a finite f32. It is the simulation of the search by itself, with the score's size counted in
+-- units of 2 ^ 20, of which a term is at most one; the terms themselves need not be f32 values, since every sum is rounded to one. (Where they
+-- are, no score is -0.0 either: Finite.) Assumes nothing.
+use Prim.Native.Nat.{ℕ, _*_, _^_, _≤_}
+use mathlib.Core.Path.{_≡_, refl, ap₂}
+use mathlib.Core.Bool.{false}
 use mathlib.Core.List.{List}
-use mathlib.Core.Option.{Option, none, some}
 use native.Mathlib.Nat.{mul-le-mul-right}
 use native.Mathlib.Omega.{arith}
 use lib.Dec.{T, lit≤}
@@ -14,46 +13,16 @@ use lib.Ieee as Ieee
 use lib.Ieee.{Float, binary32, fits}
 use lib.Ieee.Scale.{finite}
 use lib.Ieee.Fits.{add-fits, sub-fits}
-use Rattle.util.specs.Choose.{choose}
 use Rattle.ieee.specs.Size.{Upto}
 use Rattle.ieee.proofs.Sizes.{upto-zero, upto-wider, add-upto, sub-upto}
 use Rattle.frame.specs.Format.{headerBits}
 use Rattle.model.specs.Range.{someOut}
-use Rattle.trellis.specs.Trellis.{Trellis}
-use Rattle.trellis.specs.Search.{closing, Candidate, closesIn, last, best, settled, wordIn, search}
+use Rattle.trellis.specs.Search.{search}
 use Rattle.trellis.specs.Numbers.{single}
 use Rattle.trellis.specs.Terms.{header, lent}
 use Rattle.trellis.proofs.Alike.{Follows}
 use Rattle.trellis.proofs.AnyTerms.{term-upto}
-use Rattle.trellis.proofs.Handed.{passOf}
 use Rattle.trellis.proofs.Metric.{header-alike}
-
--- ---- the pass
-
-module _ {A : Type 0} (X : Trellis A) where
-  last-most : last X ≤ 2
-  unfolding last
-  last-most = by (closesIn X 0) (closesIn X 1)
-    where
-      by : (c d : Bool) → choose c 0 (choose d 1 2) ≤ 2
-      by true d = lit≤ tt
-      by false true = lit≤ tt
-      by false false = lit≤ tt
-
-  not-closing : (o : Option (Candidate A)) (p : ℕ) → settled X o .how ≡ closing p → ⊥
-  unfolding settled
-  not-closing none p e = let z : _≡_ {A = ℕ} 0 1 = cc in omega arith
-  not-closing (some c) p e = let z : _≡_ {A = ℕ} 0 1 = cc in omega arith
-
-  pub closing-pass : (p : ℕ) → search X .how ≡ closing p → (1 ≤ p) × (p ≤ 3)
-  unfolding search
-  closing-pass p e = by (closesIn X (last X)) e
-    where
-      by : (c : Bool) → choose c (wordIn X (closing (suc (last X))) (last X)) (settled X (best X 3)) .how ≡ closing p → (1 ≤ p) × (p ≤ 3)
-      by true e = let z : suc (last X) ≡ p = ap passOf e in (omega arith, omega (arith, last-most))
-      by false e = absurd (not-closing (best X 3) p e)
-
--- ---- the score
 
 -- a score, and a term, stand for themselves
 record Held (q : ℕ) (x y : Float) : Type 0 where

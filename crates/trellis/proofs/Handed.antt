@@ -61,10 +61,11 @@ module _ {A : Type 0} (X : Trellis A) where
       ap (λ (k : ℕ). choose (closesIn X k) (wordIn X (closing (suc k)) k) (settled X (best X 3))) (first-last t)
       ∙ ap (λ (c : Bool). choose c (wordIn X (closing 1) 0) (settled X (best X 3))) (is-true (closesIn X 0) t)
 
-  no-first : (o : Option (Candidate A)) → settled X o .how ≡ closing 1 → ⊥
+  -- what three passes leave is not out by closing
+  not-closing : (o : Option (Candidate A)) (p : ℕ) → settled X o .how ≡ closing p → ⊥
   unfolding settled
-  no-first none e = let z : _≡_ {A = ℕ} 0 1 = ap passOf e in omega arith
-  no-first (some c) e = let z : _≡_ {A = ℕ} 0 1 = ap passOf e in omega arith
+  not-closing none p e = let z : _≡_ {A = ℕ} 0 1 = cc in omega arith
+  not-closing (some c) p e = let z : _≡_ {A = ℕ} 0 1 = cc in omega arith
 
   -- pass 1 is said of the first pass alone
   first-closes : search X .how ≡ closing 1 → T (closesIn X 0)
@@ -73,12 +74,31 @@ module _ {A : Type 0} (X : Trellis A) where
     where
       at-zero : (c : Bool) → picked c .how ≡ closing 1 → last X ≡ 0
       at-zero true e = let z : suc (last X) ≡ 1 = ap passOf e in omega arith
-      at-zero false e = absurd (no-first (best X 3) e)
+      at-zero false e = absurd (not-closing (best X 3) 1 e)
 
       which : (c d : Bool) → _≡_ {A = ℕ} (choose c 0 (choose d 1 2)) 0 → T c
       which true d e = tt
       which false true e = omega arith
       which false false e = omega arith
+
+  -- ---- the pass is 1, 2 or 3
+
+  pub last-most : last X ≤ 2
+  unfolding last
+  last-most = go (closesIn X 0) (closesIn X 1)
+    where
+      go : (c d : Bool) → choose c 0 (choose d 1 2) ≤ 2
+      go true d = omega arith
+      go false true = omega arith
+      go false false = omega arith
+
+  pub closing-pass : (p : ℕ) → search X .how ≡ closing p → (1 ≤ p) × (p ≤ 3)
+  unfolding search
+  closing-pass p e = go (closesIn X (last X)) e
+    where
+      go : (c : Bool) → picked c .how ≡ closing p → (1 ≤ p) × (p ≤ 3)
+      go true e = let z : suc (last X) ≡ p = ap passOf e in (omega arith, omega (arith, last-most))
+      go false e = absurd (not-closing (best X 3) p e)
 
   -- ---- candidates
 

@@ -37,7 +37,8 @@ unfolding highFirst
 digit-more base f at k s d e g = ap₂ (λ (x y : ℕ). base * x + y) e g ∙ ap (highFirst base f at) (sym (add-one k))
 
 -- the same digits make the same number
-pub same-digits : (base : ℕ) (f g : ℕ → ℕ) (at to n : ℕ) → ((i : ℕ) → i < n → f (at + i) ≡ g (to + i)) → highFirst base f at n ≡ highFirst base g to n
+pub same-digits : (base : ℕ) (f g : ℕ → ℕ) (at to n : ℕ) → ((i : ℕ) → i < n → f (at + i) ≡ g (to + i))
+    → highFirst base f at n ≡ highFirst base g to n
 unfolding highFirst
 same-digits base f g at to zero e = refl
 same-digits base f g at to (suc n) e =
@@ -63,5 +64,9 @@ whole (suc k) x h =
 pub read-back : (bytes : List ℕ) (at k x : ℕ) → take k (drop at bytes) ≡ big k x → x < 256 ^ k → numberAt bytes at k ≡ x
 read-back bytes at k x e h =
     same-digits 256 (λ i. getD bytes i 0) (λ i. getD (big k x) i 0) at 0 k
-    (λ i l. sym (getD-drop at bytes i 0) ∙ sym (getD-take k (drop at bytes) i 0 l) ∙ ap (λ (b : List ℕ). getD b i 0) e ∙ ap (λ (n : ℕ). getD (big k x) n 0) (omega arith))
+    (λ i l.
+    sym (getD-drop at bytes i 0)
+    ∙ sym (getD-take k (drop at bytes) i 0 l)
+    ∙ ap (λ (b : List ℕ). getD b i 0) e
+    ∙ ap (λ (n : ℕ). getD (big k x) n 0) (omega arith))
     ∙ whole k x h

@@ -34,7 +34,11 @@ less-itself (fin s m e) =
 returns : tie.Need-returns
 returns c =
     less-itself (c .args .score)
-    ∙ rw (c .good .0 .1, lt-ltb (c .args .start) (2 ^ 64) (c .fits .start .fits), lt-ltb (c .args .segment) (2 ^ 16) (c .fits .segment .fits)) (sym (and-true (finite (c .args .score))))
+    ∙ rw (
+      c .good .0 .1,
+      lt-ltb (c .args .start) (2 ^ 64) (c .fits .start .fits),
+      lt-ltb (c .args .segment) (2 ^ 16) (c .fits .segment .fits),
+    ) (sym (and-true (finite (c .args .score))))
 
 pub others-are-lawful-spec : {M : Type 1} → statement M
 others-are-lawful-spec = tie.close (tie.spec returns)

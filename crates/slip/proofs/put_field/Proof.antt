@@ -16,7 +16,8 @@ behind : (was one two three a b v : List ℕ) → one ≡ was ++ a → two ≡ o
 behind was one two three a b v e f g =
     g ∙ ap (λ (l : List ℕ). l ++ v) (f ∙ ap (λ (l : List ℕ). l ++ b) e ∙ append-assoc was a b) ∙ append-assoc was (a ++ b) v
 
-spelt : (was one two three : List ℕ) (at tag width value : ℕ) → take (at + 1) one ≡ take at was ++ big 1 tag → take (at + 1 + 2) two ≡ take (at + 1) one ++ big 2 width
+spelt : (was one two three : List ℕ) (at tag width value : ℕ) → take (at + 1) one ≡ take at was ++ big 1 tag
+    → take (at + 1 + 2) two ≡ take (at + 1) one ++ big 2 width
     → take (at + 3 + width) three ≡ take (at + 3) two ++ big width value → take (at + 3 + width) three ≡ take at was ++ field tag (big width value)
 unfolding field
 spelt was one two three at tag width value e f g =

@@ -46,7 +46,8 @@ wide-requires c κs = search needs
 add-sum : tie.Need-add-sum Inv-loop μ-loop
 add-sum c =
     let at = c .before .before .before in
-    omega (arith, room (at .loop .k) (at .loop .sum) (omega arith) (at .loop .inv .2), at .before .shared-slice-known .given (at .before .before .args .at + at .loop .k))
+    let byte = at .before .shared-slice-known .given (at .before .before .args .at + at .loop .k) in
+    omega (arith, room (at .loop .k) (at .loop .sum) (omega arith) (at .loop .inv .2), byte)
 
 add-k : tie.Need-add-k Inv-loop μ-loop
 add-k c = search needs
