@@ -127,7 +127,8 @@ uint32_t ion_read_header(uint8_t mode, uint8_t kind, const float *terms, size_t 
  * each a tag of one byte, a length of two and the value, every number with its highest byte first:
  *   tag 1 mode, 1 byte; 2 kind, 1; 3 word, 8; 4 outcome, 6: the outcome, the pass, the score's four bytes; 5 start sample, 8; 6 segment, 2.
  * A slip holds: a mode and a kind that are named; a word with zeros above its 48 bits (64 for ION_DATA); ION_SURE with a pass of 1 to 3,
- * ION_KEPT or ION_OPEN with 0; a finite score (-0.0 is one, and has its own bytes); any start and segment.
+ * ION_KEPT or ION_OPEN with 0; a finite score (-0.0 is one, and has its own bytes); any start and segment. It has neither the layout nor
+ * a verdict on the word's CRC, which ion_crc tells in the layout in use.
  * Proved: every answer of ion_read_header is such, with any start and segment. ion_read_slip gives back what was written, bit for bit.
  * Refused: 4 (slip_len is not 44), 13 (values that no slip holds, an outcome above 2 or a pass that does not go with it among them). */
 uint32_t ion_write_slip(uint8_t mode, uint8_t kind, uint64_t word, uint8_t outcome, uint8_t pass, float score, uint64_t start,

@@ -2,7 +2,6 @@
 // an empty standard output, and status 1 from `burst | grep .`; the file by standard input and by name; the usage; a full device. With a file and the words soft and metrics it prints what the Rust says of the file.
 mod inputs;
 mod made;
-#[allow(dead_code)] // only what writes
 mod slip;
 use ion::fec::conv::ConvCode;
 use ion::phy_mfsk::hook::{air, blanked_frac, code, decode_terms_told, soft_terms, windows};

@@ -4,7 +4,6 @@
 mod face;
 mod inputs;
 mod made;
-#[allow(dead_code)]
 mod slip;
 use ion::phy_mfsk::hook::{air, windows};
 use made::{How, KINDS, MODES, RUST, Sender, made_by, write, write_older};

@@ -1,5 +1,6 @@
 // A second writer and a second reader of slips, written from document 02's words (#103): the Rust has neither. The reader goes from field to
 // field by their tags and lengths, and knows nothing of the writer; a score is the pattern of its bits, so that any NaN can be told.
+#![allow(dead_code)] // not every program reads
 #[derive(Clone, Copy, Debug, PartialEq)]
 pub struct Slip {
     pub mode: u8,

@@ -434,7 +434,7 @@ pub fn read_header(mode: Mode, kind: Kind, terms: &[f32], areas: &mut Areas) -> 
 
 /// What the shed computer is told of a burst: its header as read, with mode and kind, the sample at which the burst starts, and its
 /// segment's number. It is written as [`SLIP`] bytes: six fields, each a tag of one byte, a length of two and the value, every number with
-/// its highest byte first.
+/// its highest byte first. It has neither the layout nor a verdict on the word's CRC, which [`crc`] tells in the layout in use.
 ///
 /// Proved: [`Slip::from_bytes`] reads a string of bytes exactly where some slip is written as it, and as that slip, so no two strings are
 /// one slip; and every answer of [`read_header`] can be written, with any start and segment. A score of -0.0 has bytes of its own, though
