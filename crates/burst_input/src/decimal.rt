@@ -1,4 +1,6 @@
-// A number in decimal digits.
+// A number in decimal digits. Definitions in specs/.
+ghost use mathlib.Core.Path.{_≡_};
+ghost use Rattle.burst_input.specs.Decimal.{withDigit, decimalOf};
 
 pub enum Decimal {
     // below 2^64
@@ -8,7 +10,9 @@ pub enum Decimal {
 }
 
 // A digit more behind n, where it is a digit and there is room for it.
-fn with_digit(n: u64, byte: u8) -> Decimal {
+fn with_digit(n: u64, byte: u8) -> Decimal
+    ensures { λ r. ⌜ r ≡ withDigit n byte ⌝ }
+{
     if byte < b'0' {
         return Decimal::Other;
     }
@@ -23,7 +27,9 @@ fn with_digit(n: u64, byte: u8) -> Decimal {
 }
 
 // Inside: the number that digits alone make, one at least.
-pub fn read(word: &[u8]) -> Decimal {
+pub fn read(word: &[u8]) -> Decimal
+    ensures { λ r. ⌜ r ≡ decimalOf (now (word .entry)) ⌝ }
+{
     if word.len() == 0 {
         return Decimal::Other;
     }

@@ -1,0 +1,2 @@
+-- What the promises of this crate cite.
+pub mod Decimal
