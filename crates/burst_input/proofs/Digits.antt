@@ -1,9 +1,9 @@
 -- A number in decimal digits, digit by digit: what a digit more makes, and that no digit more makes it less. Assumes nothing.
 use Prim.Native.Nat.{ℕ, zero, suc, _+_, _*_, _-_, _^_, _≤_, _<_}
-use mathlib.Core.Bool.{Bool, true, false, _||_}
+use mathlib.Core.Bool.{Bool, true, false, _||_, or-true}
 use mathlib.Core.List.{List}
 use mathlib.Core.Logic.{_⊎_, inl, inr, ⊎-elim}
-use mathlib.Core.Path.{_≡_, refl, sym, ap}
+use mathlib.Core.Path.{_≡_, refl, sym, ap, _∙_}
 use native.Mathlib.Nat.{zero-add, le-refl, le-trans, eq-or-lt-of-le}
 use native.Mathlib.Omega.{arith}
 use borrow.Author.Tests.{eq-eqb, ne-eqb, le-leb, lt-leb, leb-true, leb-false}
@@ -82,16 +82,12 @@ module _ (word : List ℕ) where
       other (eqb (length word) 0) (someOf noDigit word) (leb (2 ^ 64) (numberOf word (length word))) (numberOf word (length word))
       (ap (λ (t : Bool). t || leb (2 ^ 64) (numberOf word (length word))) e)
 
-  last : (b c : Bool) → c ≡ true → (b || c) ≡ true
-  last true c e = refl
-  last false c e = e
-
   pub too-large : (i : ℕ) → i ≤ length word → 2 ^ 64 ≤ numberOf word i → Other ≡ decimalOf word
   unfolding decimalOf
   too-large i h large =
       other (eqb (length word) 0) (someOf noDigit word) (leb (2 ^ 64) (numberOf word (length word))) (numberOf word (length word))
-      (last (someOf noDigit word) (leb (2 ^ 64) (numberOf word (length word)))
-      (le-leb (2 ^ 64) (numberOf word (length word)) (le-trans large (grows word i (length word) h))))
+      (ap (λ (t : Bool). someOf noDigit word || t) (le-leb (2 ^ 64) (numberOf word (length word)) (le-trans large (grows word i (length word) h)))
+      ∙ or-true (someOf noDigit word))
 
   pub number : (length word ≡ 0 → ⊥) → someOf noDigit word ≡ false → numberOf word (length word) < 2 ^ 64
       → Number (numberOf word (length word)) ≡ decimalOf word

@@ -6,19 +6,19 @@ use native.Mathlib.Nat.{sub-self, le-refl, one-le-mul}
 use native.Mathlib.Omega.{arith}
 use borrow.Author.Tests.{lt-ltb, le-ltb}
 use lib.Dec.{lit<}
-use lib.Ieee.{Float, nan, inf, fin, up, down, binary32, fits, eq, sub, add, neg, sum, round, size, units, ofBits}
-use lib.IntN.{pos}
+use lib.Ieee.{Float, nan, inf, fin, up, down, binary32, fits, eq, sub, add, neg, sum, round, ofBits}
 use lib.Ieee.Positive.{den-pos}
 use lib.Ieee.Scale.{finite, round-same}
+use Rattle.ieee.specs.Whole.{plusZero}
+use Rattle.ieee.proofs.Rounds.{zero-round}
 use Rattle.slip.proofs.others_are_lawful.Statement.{statement}
 use Rattle.slip.proofs.others_are_lawful.Tie as tie
 
 -- a sum of nothing, whatever its denominator
-nothing : (c : ℕ) → 0 < c → round binary32 false 0 c ≡ fin false 0 (pos 0)
-unfolding round size units
-nothing c h = round-same binary32 false 0 c 0 1 h (lit< tt) (omega arith)
+nothing : (c : ℕ) → 0 < c → round binary32 false 0 c ≡ plusZero
+nothing c h = round-same binary32 false 0 c 0 1 h (lit< tt) (omega arith) ∙ zero-round binary32
 
-cancelled : (s : Bool) (a c : ℕ) → 0 < c → sum binary32 s a (not s) a c ≡ fin false 0 (pos 0)
+cancelled : (s : Bool) (a c : ℕ) → 0 < c → sum binary32 s a (not s) a c ≡ plusZero
 unfolding sum
 cancelled false a c h = rw (le-ltb a a (le-refl a), sub-self a) (nothing c h)
 cancelled true a c h = rw (le-ltb a a (le-refl a), sub-self a) (nothing c h)
@@ -29,7 +29,8 @@ less-itself nan = refl
 less-itself (inf false) = refl
 less-itself (inf true) = refl
 less-itself (fin s m e) =
-    ap (λ (x : Float). eq x (fin false 0 (pos 0))) (cancelled s (m * up e * down e) (down e * down e) (one-le-mul (den-pos (fin s m e)) (den-pos (fin s m e))))
+    let below = one-le-mul (den-pos (fin s m e)) (den-pos (fin s m e)) in
+    ap (λ (x : Float). eq x plusZero) (cancelled s (m * up e * down e) (down e * down e) below)
 
 returns : tie.Need-returns
 returns c =

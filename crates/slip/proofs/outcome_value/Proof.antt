@@ -1,25 +1,19 @@
 -- `slip::outcome_value` meets its contract: numbers side by side are one number. Assumes nothing.
 use Prim.Native.Nat.{ℕ, _+_, _*_, _^_, _<_}
-use mathlib.Core.Bool.{true, not, true≢false}
+use mathlib.Core.Bool.{true}
 use mathlib.Core.List.{List, _++_}
 use mathlib.Core.Path.{_≡_, sym, ap, subst, _∙_}
 use native.Mathlib.Omega.{arith}
 use borrow.Author.Needs.{needs}
 use lib.Dec.{T}
-use lib.Ieee.{Float, nan, inf, fin, binary32, fits, isNan, toBits}
+use lib.Ieee.{Float, binary32, fits, toBits}
 use lib.Ieee.Bits.{toBits-lt}
-use lib.Ieee.Scale.{finite}
+use Rattle.ieee.proofs.Order.{finite-not-nan}
 use Rattle.wire.specs.Bytes.{big}
 use Rattle.wire.proofs.Bytes.{big-both}
 use Rattle.slip.specs.Spelling.{outcomeValue}
 use Rattle.slip.proofs.outcome_value.Statement.{statement}
 use Rattle.slip.proofs.outcome_value.Tie as tie
-
-plain : (x : Float) → finite x ≡ true → T (not (isNan x))
-unfolding isNan
-plain nan e = absurd (true≢false (sym e))
-plain (inf s) e = tt
-plain (fin s m p) e = tt
 
 pattern : (x : Float) → fits binary32 x ≡ true → toBits binary32 x < 4294967296
 pattern x e = toBits-lt binary32 x (subst T (sym e) tt)
@@ -42,7 +36,7 @@ add-result : tie.Need-add-result
 add-result c = search needs
 
 float-to-bits-result : tie.Need-float-to-bits-result
-float-to-bits-result c = plain (c .args .score) (c .pre)
+float-to-bits-result c = finite-not-nan (c .args .score) (subst T (sym (c .pre)) tt)
 
 cast-result : tie.Need-cast-result
 cast-result c = record { fits = omega (arith, pattern (c .args .score) (c .good .1 .1 .0 .1)) }
