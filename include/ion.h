@@ -31,10 +31,10 @@ extern "C" {
 
 /* The number of the last change request that is in; 0 is the base. Answer, outcome and tracker will grow. The library has the number
  * in a symbol's name, which every file that includes this header asks for: a library of another version does not link. */
-#define ION_VERSION 103
-uint32_t ion_version_103(void);
+#define ION_VERSION 104
+uint32_t ion_version_104(void);
 #if defined(__GNUC__)
-__attribute__((used)) static uint32_t (*const ion_version)(void) = ion_version_103;
+__attribute__((used)) static uint32_t (*const ion_version)(void) = ion_version_104;
 #endif
 
 /* modes, kinds, the form of data, the first and the last layout, what was heard of a symbol, outcomes of a header read */

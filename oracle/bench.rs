@@ -1,47 +1,18 @@
 // Times of the entries against the Rust's, ours through the C functions of libion.a, the same inputs in one run, taking turns, in CPU time: median
 // and spread of the ratios. Then soft values by the number of symbols, as a plot. Built and run by bench.sh.
+mod clock;
 #[allow(dead_code)]
 mod face;
 mod inputs;
 mod slip;
 
+use clock::{spread, timed};
 use face::{Header, Soft};
 use inputs::{Dice, lawful_slip, rows, sample, styled};
 use ion::phy_mfsk::hook::{Kind, MfskMode, Tracker, air, code, decode_terms, soft_terms};
 use slip::Slip;
 use std::fmt::Write;
 use std::hint::black_box;
-
-/// Milliseconds that this thread has had a core: what other work on the machine takes is not counted.
-fn clock() -> f64 {
-    #[repr(C)]
-    #[derive(Default)]
-    struct Time {
-        s: i64,
-        ns: i64,
-    }
-    unsafe extern "C" {
-        fn clock_gettime(which: i32, t: *mut Time) -> i32;
-    }
-    const THREAD: i32 = 3; // CLOCK_THREAD_CPUTIME_ID of Linux
-    let mut t = Time::default();
-    assert_eq!(unsafe { clock_gettime(THREAD, &mut t) }, 0);
-    t.s as f64 * 1e3 + t.ns as f64 / 1e6
-}
-
-/// Milliseconds of one call.
-fn timed<T>(f: impl FnOnce() -> T) -> (f64, T) {
-    let begun = clock();
-    let out = black_box(f());
-    (clock() - begun, out)
-}
-
-/// The middle one of a list, the least and the greatest.
-fn spread(mut list: Vec<f64>) -> [f64; 3] {
-    list.sort_by(f64::total_cmp);
-    let n = list.len();
-    [(list[(n - 1) / 2] + list[n / 2]) / 2.0, list[0], list[n - 1]]
-}
 
 /// Pairs (ours, the Rust's) in milliseconds: a warm-up that is not counted, then the repeats, the side that begins changing by turns.
 fn pairs(repeats: usize, mut one: impl FnMut(u64, bool) -> (f64, f64)) -> Vec<(f64, f64)> {

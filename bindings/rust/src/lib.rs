@@ -49,16 +49,16 @@ mod sys {
             slip: *const u8, slip_len: usize, mode: *mut u8, kind: *mut u8, word: *mut u64, outcome: *mut u8, pass: *mut u8, score: *mut f32,
             start: *mut u64, segment: *mut u16,
         ) -> u32;
-        pub fn ion_version_103() -> u32;
+        pub fn ion_version_104() -> u32;
     }
 }
 
 /// The number of the last change request that is in; 0 is the base. The library has it in a symbol's name, so a library of another
 /// version does not link.
-pub const VERSION: u32 = 103;
+pub const VERSION: u32 = 104;
 
 #[used]
-static VERSION_LINKED: unsafe extern "C" fn() -> u32 = sys::ion_version_103;
+static VERSION_LINKED: unsafe extern "C" fn() -> u32 = sys::ion_version_104;
 
 /// Terms of a symbol: five rows of 52.
 pub const TERMS: usize = 260;

@@ -1,9 +1,9 @@
 -- Where a symbol falls, for any bin count: a hop and a bin lie on the grid, the 32 values of a symbol on different bins, a place and
 -- the two beside it in the row of 52; and every step has a slot of its own.
 -- Assumes nothing.
-use Prim.Native.Nat.{ℕ, _+_, _-_, _≤_, _<_}
+use Prim.Native.Nat.{ℕ, _+_, _-_, _%_, _≤_, _<_}
 use mathlib.Core.Bool.{Bool, true, false}
-use mathlib.Core.Path.{_≡_, sym}
+use mathlib.Core.Path.{_≡_, refl, sym}
 use native.Mathlib.Nat.{mod-lt}
 use native.Mathlib.Omega.{arith}
 use lib.Dec.{eqb, lit≤}
@@ -69,3 +69,10 @@ header-least kind = by (eqb kind 1)
     by : (t : Bool) → 48 ≤ choose t 64 48
     by true = lit≤ tt
     by false = lit≤ tt
+
+pub header-even : (kind : ℕ) → headerBits kind % 2 ≡ 0
+header-even kind = by (eqb kind 1)
+  where
+    by : (t : Bool) → choose t 64 48 % 2 ≡ 0
+    by true = refl
+    by false = refl

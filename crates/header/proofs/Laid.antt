@@ -1,5 +1,5 @@
 -- The search over the list of a header's metrics, step by step: it is document 01's over the terms. Assumes nothing.
-use Prim.Native.Nat.{ℕ, _+_, _*_, _<_, _≤_}
+use Prim.Native.Nat.{ℕ, _+_, _*_, _%_, _<_, _≤_}
 use mathlib.Core.List.{List}
 use mathlib.Core.Path.{_≡_, refl, sym, ap, ap₂, _∙_}
 use native.Mathlib.Nat.{mul-le-mul-left}
@@ -9,7 +9,7 @@ use lib.Ieee.{Float, nan}
 use lib.ListN.{length, take}
 use lib.Seq.{length-take-le, getD-take}
 use Rattle.frame.specs.Format.{headerBits}
-use Rattle.frame.proofs.Air.{header-most}
+use Rattle.frame.proofs.Air.{header-most, header-least, header-even}
 use Rattle.conv.specs.Label.{labelOf}
 use Rattle.conv.proofs.Linear.{label-lt}
 use Rattle.trellis.specs.Search.{How, Found, search}
@@ -45,7 +45,12 @@ module _ (mode kind : ℕ) (terms list : List Float) (rows : Rows mode kind term
   pub part-lent : {scores next start : List Float} {decisions : List ℕ} → Room kind (areas scores next start decisions) → Lent part scores next start decisions
   part-lent room =
       record {
-        steps = record { whole = omega (arith, part-length, part-steps); few = omega (arith, part-steps, header-most kind) };
+        steps = record {
+          whole = omega (arith, part-length, part-steps);
+          few = omega (arith, part-steps, header-most kind);
+          some = omega (arith, part-steps, header-least kind);
+          even = ap (λ (k : ℕ). k % 2) part-steps ∙ header-even kind;
+        };
         of-scores = room .of-scores;
         of-next = room .of-next;
         of-start = room .of-start;

@@ -1,7 +1,7 @@
 -- One step, state by state, and one pass, step by step: what the areas hold is what the definitions say. Assumes nothing.
-use Prim.Native.Nat.{ℕ, zero, suc, _+_, _*_, _/_, _%_, _<_}
+use Prim.Native.Nat.{ℕ, zero, suc, _+_, _*_, _-_, _/_, _%_, _<_}
 use mathlib.Core.List.{List}
-use mathlib.Core.Path.{_≡_, refl, sym, ap, ap₂, _∙_}
+use mathlib.Core.Path.{_≡_, refl, sym, ap, ap₂, subst, _∙_}
 use native.Mathlib.Nat.{not-suc-le-zero}
 use native.Mathlib.Numerals.{add-one}
 use native.Mathlib.Omega.{arith}
@@ -12,7 +12,7 @@ use Rattle.util.specs.Choose.{choose}
 use Rattle.trellis.specs.Scale.{Scale, highest}
 use Rattle.trellis.specs.Search.{brings, upper, step, scores, decision}
 use Rattle.trellis.proofs.Best.{highest-up-to}
-use Rattle.pass.specs.Areas.{table, over, flag, packed, Stepped, Ran}
+use Rattle.pass.specs.Areas.{table, stepsIn, over, flag, packed, Holds, Stepped, Ran, Turned}
 
 -- what is stored for state s, from what its two registers bring
 module _ (metrics : List Float) (f : ℕ → Float) (j s : ℕ) {a b : Float}
@@ -67,3 +67,21 @@ ran-more metrics f j {area} {after} {d} {new} ran st =
             (λ s l. st .flags s l ∙ upper-same metrics j (ran .held .at) s l);
       };
     }
+
+-- two steps, the second from what the first made
+pub turned : (metrics : List Float) (f : ℕ → Float) (j : ℕ) {area between after : List Float} {d mid new : List ℕ} → length d ≡ stepsIn metrics * 256
+    → Ran metrics f j area d → Stepped metrics area j between d mid → Stepped metrics between (j + 1) after mid new → Turned metrics f (j + 2) after between new
+turned metrics f j {between = between} size ran one two =
+    let half = ran-more metrics f j ran one in
+    let here : j + 2 - 1 ≡ j + 1 = omega arith in
+    let next : j + 2 ≡ j + 1 + 1 = omega arith in
+    record {
+      ran = rw next (ran-more metrics f (j + 1) half two);
+      source = subst (λ (k : ℕ). Holds between (scores (over metrics) f k)) (sym here) (half .held);
+      room = two .room ∙ one .room ∙ size;
+    }
+
+-- the first two
+pub opened : {metrics start between after : List Float} {d mid new : List ℕ} → length start ≡ 16384 → length d ≡ stepsIn metrics * 256
+    → Stepped metrics start 0 between d mid → Stepped metrics between 1 after mid new → Turned metrics (table start) 2 after between new
+opened {metrics} {start} {d = d} e size one two = turned metrics (table start) 0 size (ran-none metrics start d e) one two

@@ -1,5 +1,5 @@
 -- How the lent areas hold what document 01's search speaks of (crate trellis): tables of scores, packed decisions, metrics of the steps.
-use Prim.Native.Nat.{ℕ, _+_, _*_, _/_, _%_, _^_, _<_, _≤_}
+use Prim.Native.Nat.{ℕ, _+_, _*_, _-_, _/_, _%_, _^_, _<_, _≤_}
 use mathlib.Core.Bool.{Bool}
 use mathlib.Core.List.{List}
 use mathlib.Core.Path.{_≡_}
@@ -40,10 +40,13 @@ pub record Holds (area : List Float) (f : ℕ → Float) : Type 0 where
 pub record Decides (area : List ℕ) (j : ℕ) (d : ℕ → ℕ → Bool) : Type 0 where
   pub at : (i : ℕ) → i < j → (s : ℕ) → s < 16384 → packed area i s ≡ d i s
 
--- 32 metrics for each of at most 64 steps
+-- 32 metrics for each of at most 64 steps, and of these an even number, two at least: so the turns that two areas take end in the one that
+-- the end scores belong in
 pub record Metrics (metrics : List Float) : Type 0 where
   pub whole : length metrics ≡ stepsIn metrics * 32
   pub few : stepsIn metrics ≤ 64
+  pub some : 0 < stepsIn metrics
+  pub even : stepsIn metrics % 2 ≡ 0
 
 -- word w of step j from the scores `from` is done: its 64 scores and decisions; the scores below are as they were
 pub record Word (metrics from : List Float) (j w : ℕ) (before after : List Float) (word : ℕ) : Type 0 where
@@ -64,3 +67,10 @@ pub record Stepped (metrics from : List Float) (j : ℕ) (after : List Float) (o
 pub record Ran (metrics : List Float) (f : ℕ → Float) (j : ℕ) (scores : List Float) (decisions : List ℕ) : Type 0 where
   pub held : Holds scores (Search.scores (over metrics) f j)
   pub decided : Decides decisions j (decision (over metrics) f)
+
+-- after j steps of a pass, one at least, in which two areas took turns as source and target (document 02, #104): the scores and the
+-- decisions as above, and the other area still holds the scores that the last step started from. A copy back would leave both alike
+pub record Turned (metrics : List Float) (f : ℕ → Float) (j : ℕ) (scores other : List Float) (decisions : List ℕ) : Type 0 where
+  pub ran : Ran metrics f j scores decisions
+  pub source : Holds other (Search.scores (over metrics) f (j - 1))
+  pub room : length decisions ≡ stepsIn metrics * 256

@@ -9,7 +9,7 @@ ghost use Rattle.util.specs.Choose.{choose};
 ghost use Rattle.trellis.specs.Scale.{highest};
 ghost use Rattle.trellis.specs.Numbers.{single};
 ghost use Rattle.trellis.specs.Search.{brings};
-ghost use Rattle.pass.specs.Areas.{table, stepsIn, over, Metrics, Word, Stepped, Ran};
+ghost use Rattle.pass.specs.Areas.{table, stepsIn, over, Metrics, Word, Stepped, Turned};
 
 // The survivor of a state's two registers, as a decision: 1 for the upper one where its path metric b is strictly
 // greater, else 0 for the lower one with a.
@@ -55,7 +55,8 @@ fn states(scores: &[f32], metrics: &[f32], j: usize, w: usize, next: &mut [f32])
     word
 }
 
-// All states of step j: their scores go to `next`, their decisions to the step's 256 words.
+// All states of step j from `scores`, which stay as they were: their scores go to `next`, their decisions to the step's
+// 256 words.
 fn step(scores: &[f32], metrics: &[f32], j: usize, next: &mut [f32], decisions: &mut [u64])
     requires { ⌜ Metrics (now metrics) ⌝ }
     requires { ⌜ (length (now scores) ≡ 16384) × (j < stepsIn (now metrics)) × (length (now next) ≡ 16384)
@@ -69,42 +70,45 @@ fn step(scores: &[f32], metrics: &[f32], j: usize, next: &mut [f32], decisions: 
     }
 }
 
-// Inside: all scores of one area into another.
-pub fn copy(from: &[f32], to: &mut [f32])
-    requires { ⌜ (length (now from) ≡ 16384) × (length (now to) ≡ 16384) ⌝ }
-    ensures { λ _. ⌜ now (to .exit) ≡ now (from .entry) ⌝ }
-{
-    let mut s = 0usize;
-    while s < 16384 {
-        to[s] = from[s];
-        s += 1;
-    }
-}
-
-// Step j of a pass. Its scores are copied back.
-fn turn(metrics: &[f32], j: usize, scores: &mut [f32], next: &mut [f32], decisions: &mut [u64])
+// The first two steps of a pass, from the start scores, which stay as they were.
+fn opening(
+    metrics: &[f32],
+    scores: &mut [f32],
+    next: &mut [f32],
+    start: &[f32],
+    decisions: &mut [u64],
+)
     requires { ⌜ Metrics (now metrics) ⌝ }
-    requires { ⌜ (length (now scores) ≡ 16384) × (j < stepsIn (now metrics)) × (length (now next) ≡ 16384)
+    requires { ⌜ (length (now scores) ≡ 16384) × (length (now next) ≡ 16384) × (length (now start) ≡ 16384)
         × (length (now decisions) ≡ stepsIn (now metrics) * 256) ⌝ }
-    ensures { λ _. ⌜ Stepped (now (metrics .entry)) (now (scores .entry)) j (now (scores .exit)) (now (decisions .entry)) (now (decisions .exit)) ⌝ }
-    ensures size { λ _. ⌜ length (now (next .exit)) ≡ 16384 ⌝ }
+    ensures { λ _. ⌜ Turned (now (metrics .entry)) (table (now (start .entry))) 2 (now (scores .exit)) (now (next .exit)) (now (decisions .exit)) ⌝ }
 {
-    step(scores, metrics, j, next, decisions);
-    copy(next, scores);
+    step(start, metrics, 0, next, decisions);
+    step(next, metrics, 1, scores, decisions);
 }
 
-// Inside: a pass from the start scores in `scores`, which it replaces by its end scores.
-pub fn pass(metrics: &[f32], scores: &mut [f32], next: &mut [f32], decisions: &mut [u64])
+// Inside: a pass from the start scores, which stay as they were. `next` and `scores` take turns as a step's target and
+// the next one's source, and no scores are copied (document 02, #104). So the end scores are left in `scores`, and in
+// `next` those that the last step started from.
+pub fn pass(
+    metrics: &[f32],
+    scores: &mut [f32],
+    next: &mut [f32],
+    start: &[f32],
+    decisions: &mut [u64],
+)
     requires { ⌜ Metrics (now metrics) ⌝ }
-    requires { ⌜ (length (now scores) ≡ 16384) × (length (now next) ≡ 16384) × (length (now decisions) ≡ stepsIn (now metrics) * 256) ⌝ }
-    ensures { λ _. ⌜ Ran (now (metrics .entry)) (table (now (scores .entry))) (stepsIn (now (metrics .entry))) (now (scores .exit)) (now (decisions .exit)) ⌝ }
-    ensures sizes { λ _. ⌜ (length (now (next .exit)) ≡ 16384) × (length (now (decisions .exit)) ≡ stepsIn (now (metrics .entry)) * 256) ⌝ }
+    requires { ⌜ (length (now scores) ≡ 16384) × (length (now next) ≡ 16384) × (length (now start) ≡ 16384)
+        × (length (now decisions) ≡ stepsIn (now metrics) * 256) ⌝ }
+    ensures { λ _. ⌜ Turned (now (metrics .entry)) (table (now (start .entry))) (stepsIn (now (metrics .entry))) (now (scores .exit)) (now (next .exit)) (now (decisions .exit)) ⌝ }
 {
+    opening(metrics, scores, next, start, decisions);
     let steps = metrics.len() / 32;
-    let mut j = 0usize;
+    let mut j = 2usize;
     while j < steps {
-        turn(metrics, j, scores, next, decisions);
-        j += 1;
+        step(scores, metrics, j, next, decisions);
+        step(next, metrics, j + 1, scores, decisions);
+        j += 2;
     }
 }
 

@@ -100,7 +100,7 @@ module _ (metrics : List Float) {f g : ℕ → Float} (agree : (s : ℕ) → s <
   closes-same : (s : ℕ) → s < 16384 → closes X f s ≡ closes X g s
   closes-same = closes-alike (same single) 16384 (X .steps) 0 refl (lit≤ tt) (X .earn) (X .earn) (λ j r h k. refl) start-alike room
 
-  pub ran-same : {scores : List Float} {d : List ℕ} → Ran metrics f (stepsIn metrics) scores d → Ran metrics g (stepsIn metrics) scores d
+  ran-same : {scores : List Float} {d : List ℕ} → Ran metrics f (stepsIn metrics) scores d → Ran metrics g (stepsIn metrics) scores d
   ran-same ran =
       record {
         held = record { size = ran .held .size; at = λ s h. ran .held .at s h ∙ final-same s h };

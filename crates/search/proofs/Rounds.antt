@@ -29,25 +29,25 @@ use Rattle.search.proofs.Passes.{passed-same, scanned-same}
 pub record Begun (metrics scores next start : List Float) (decisions : List ℕ) (b : Best) (k : ℕ) : Type 0 where
   pub lent : Lent metrics scores next start decisions
   pub few : k ≤ 2
-  pub held : (s : ℕ) → s < 16384 → table scores s ≡ begin (over metrics) k s
+  pub held : (s : ℕ) → s < 16384 → table start s ≡ begin (over metrics) k s
   pub so-far : bestIs b ≡ best (over metrics) k
   pub unclosed : (i : ℕ) → i < k → closesIn (over metrics) i ≡ false
 
 -- the first pass begins with all scores at 0.0
 pub first : {metrics scores next start zeros : List Float} {decisions : List ℕ} → Lent metrics scores next start decisions
-    → zeros ≡ replicate (length scores) plusZero → Begun metrics zeros next start decisions Nothing 0
+    → zeros ≡ replicate (length start) plusZero → Begun metrics scores next zeros decisions Nothing 0
 unfolding begin best
-first {metrics} {scores} lent e =
+first {start = start} lent e =
     record {
       lent = record {
         steps = lent .steps;
-        of-scores = ap length e ∙ length-replicate (length scores) plusZero ∙ lent .of-scores;
+        of-scores = lent .of-scores;
         of-next = lent .of-next;
-        of-start = lent .of-start;
+        of-start = ap length e ∙ length-replicate (length start) plusZero ∙ lent .of-start;
         of-decisions = lent .of-decisions;
       };
       few = omega arith;
-      held = λ s h. ap (λ (l : List Float). table l s) e ∙ getD-replicate (length scores) s plusZero nan (omega (arith, lent .of-scores));
+      held = λ s h. ap (λ (l : List Float). table l s) e ∙ getD-replicate (length start) s plusZero nan (omega (arith, lent .of-start));
       so-far = refl;
       unclosed = λ i h. absurd (not-suc-le-zero h);
     }
@@ -75,7 +75,7 @@ module _ {A : Type 0} (X : Trellis A) where
 
 -- a pass has run from there
 module _ {metrics scores next start : List Float} {decisions : List ℕ} {b : Best} {k : ℕ} (begun : Begun metrics scores next start decisions b k)
-    {scores′ : List Float} {decisions′ : List ℕ} {t : Traceback} (passed : Passed metrics (table scores) scores′ decisions′ t) where
+    {scores′ : List Float} {decisions′ : List ℕ} {t : Traceback} (passed : Passed metrics (table start) scores′ decisions′ t) where
   here : Passed metrics (begin (over metrics) k) scores′ decisions′ t
   here = passed-same metrics (begun .held) passed
 
@@ -89,23 +89,21 @@ module _ {metrics scores next start : List Float} {decisions : List ℕ} {b : Be
       ∙ sym (search-closing (over metrics) k (begun .few) (begun .unclosed) (sym closed-is ∙ e))
 
   -- its candidates are counted in
-  pub counted : {start′ : List Float} (b′ : Best) → start′ ≡ scores
-      → bestIs b′ ≡ scanned (packed decisions′) (stepsIn metrics) (table scores′) (table start′) (bestIs b) 16384
+  pub counted : (b′ : Best) → bestIs b′ ≡ scanned (packed decisions′) (stepsIn metrics) (table scores′) (table start) (bestIs b) 16384
       → bestIs b′ ≡ best (over metrics) (suc k)
   unfolding best
-  counted {start′} b′ e c =
+  counted b′ c =
       c
-      ∙ scanned-same metrics (begin (over metrics) k) (here .ran) start′
-      (λ s h. ap (λ (l : List Float). table l s) e ∙ begun .held s h) (bestIs b) 16384 (omega arith)
+      ∙ scanned-same metrics (begin (over metrics) k) (here .ran) start (begun .held) (bestIs b) 16384 (omega arith)
       ∙ ap (λ (o : Option (Candidate Float)). candidates (over metrics) (begin (over metrics) k) o 16384) (begun .so-far)
 
   unclosed-too : t .closed ≡ false → (i : ℕ) → i < suc k → closesIn (over metrics) i ≡ false
   unclosed-too e i h = below-more (λ (i : ℕ). closesIn (over metrics) i ≡ false) k (begun .unclosed) (sym closed-is ∙ e) i (omega arith)
 
   -- the next pass begins
-  pub next-begins : {next′ start′ low : List Float} (b′ : Best) → t .closed ≡ false → suc k ≤ 2 → bestIs b′ ≡ best (over metrics) (suc k)
+  pub next-begins : {next′ low : List Float} (b′ : Best) → t .closed ≡ false → suc k ≤ 2 → bestIs b′ ≡ best (over metrics) (suc k)
       → ((s : ℕ) → s < 16384 → table low s ≡ sub binary32 (table scores′ s) (t .top))
-      → Lent metrics low next′ start′ decisions′ → Begun metrics low next′ start′ decisions′ b′ (suc k)
+      → Lent metrics scores′ next′ low decisions′ → Begun metrics scores′ next′ low decisions′ b′ (suc k)
   unfolding begin
   next-begins b′ e h c lowers lent =
       record {

@@ -14,14 +14,14 @@ ghost use Rattle.traceback.specs.Best.{bestIs};
 ghost use Rattle.search.specs.Found.{foundIs, bestOrLast};
 use traceback::Best;
 
-// All scores lose the best score, and the next pass starts there.
-fn lower(scores: &mut [f32], top: f32)
-    requires { ⌜ length (now scores) ≡ 16384 ⌝ }
-    ensures { λ _. ⌜ Holds (now (scores .exit)) (λ s. sub binary32 (table (now (scores .entry)) s) top) ⌝ }
+// The next pass starts from the end scores less the best score.
+fn lower(scores: &[f32], top: f32, start: &mut [f32])
+    requires { ⌜ (length (now scores) ≡ 16384) × (length (now start) ≡ 16384) ⌝ }
+    ensures { λ _. ⌜ Holds (now (start .exit)) (λ s. sub binary32 (table (now (scores .entry)) s) top) ⌝ }
 {
     let mut s = 0usize;
     while s < 16384 {
-        scores[s] = scores[s] - top;
+        start[s] = scores[s] - top;
         s += 1;
     }
 }
@@ -75,21 +75,19 @@ fn found_by(metrics: &[f32], scores: &[f32], start: &[f32], decisions: &[u64]) -
     }
 }
 
-// A pass from what `scores` holds, which goes to `start` first, and its traceback.
+// A pass from what `start` holds, and its traceback.
 fn run(
     metrics: &[f32],
     scores: &mut [f32],
     next: &mut [f32],
-    start: &mut [f32],
+    start: &[f32],
     decisions: &mut [u64],
 ) -> Traceback
     requires { ⌜ Lent (now metrics) (now scores) (now next) (now start) (now decisions) ⌝ }
-    ensures { λ r. ⌜ Passed (now (metrics .entry)) (table (now (scores .entry))) (now (scores .exit)) (now (decisions .exit)) r ⌝ }
-    ensures began { λ _. ⌜ now (start .exit) ≡ now (scores .entry) ⌝ }
-    ensures lent { λ _. ⌜ Lent (now (metrics .entry)) (now (scores .exit)) (now (next .exit)) (now (start .exit)) (now (decisions .exit)) ⌝ }
+    ensures { λ r. ⌜ Passed (now (metrics .entry)) (table (now (start .entry))) (now (scores .exit)) (now (decisions .exit)) r ⌝ }
+    ensures lent { λ _. ⌜ Lent (now (metrics .entry)) (now (scores .exit)) (now (next .exit)) (now (start .entry)) (now (decisions .exit)) ⌝ }
 {
-    pass::copy(scores, start);
-    pass::pass(metrics, scores, next, decisions);
+    pass::pass(metrics, scores, next, start, decisions);
     found_by(metrics, scores, start, decisions)
 }
 
@@ -137,7 +135,7 @@ pub fn search(
     ensures { λ r. ⌜ foundIs r ≡ Search.search (over (now (metrics .entry))) ⌝ }
     ensures lent { λ _. ⌜ Lent (now (metrics .entry)) (now (scores .exit)) (now (next .exit)) (now (start .exit)) (now (decisions .exit)) ⌝ }
 {
-    clear(scores);
+    clear(start);
     let steps = metrics.len() / 32;
     let mut best = Best::Nothing;
     let mut pass = 1u8;
@@ -154,7 +152,7 @@ pub fn search(
         if pass == 3 {
             return best_or_last(best, t);
         }
-        lower(scores, t.top);
+        lower(scores, t.top, start);
         pass += 1;
     }
 }

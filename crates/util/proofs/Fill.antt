@@ -23,10 +23,6 @@ up-done l i v d g inside e rest =
     (getD-set-same l i v d inside ∙ e)
 
 module _ {A : Type 0} (l : List A) (i : ℕ) (v d : A) where
-  -- what a store leaves above
-  pub up-kept : (old : List A) → ((k : ℕ) → i ≤ k → getD l k d ≡ getD old k d) → (k : ℕ) → i + 1 ≤ k → getD (set l i v) k d ≡ getD old k d
-  up-kept old rest k h = let above : i < k = omega arith in getD-set-other l i k v d (ne-of-gt above) ∙ rest k (omega arith)
-
   -- downwards: what holds from i + 1 on, and at i, holds from i on
   pub down-done : (g : ℕ → A) (hi : ℕ) → i < length l → v ≡ g i → ((s : ℕ) → i + 1 ≤ s → s < hi → getD l s d ≡ g s)
       → (s : ℕ) → i ≤ s → s < hi → getD (set l i v) s d ≡ g s

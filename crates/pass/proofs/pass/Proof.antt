@@ -1,72 +1,97 @@
--- `pass::pass` meets its contract. The invariant: the steps passed have run. The measure is what is left of them. Assumes nothing.
-use Prim.Native.Nat.{_*_, _-_, _≤_}
-use mathlib.Core.Path.{_≡_, refl, sym, _∙_}
+-- `pass::pass` meets its contract. The invariant: an even number of steps has run, the areas taking turns (`Turned`). The measure is what
+-- is left of them. Assumes nothing.
+use Prim.Native.Nat.{_-_, _%_, _≤_}
+use mathlib.Core.Path.{_≡_, refl, _∙_}
 use native.Mathlib.Omega.{arith}
 use borrow.Author.Needs.{needs}
-use lib.ListN.{length}
-use Rattle.pass.proofs.Steps.{ran-none, ran-more}
-use Rattle.pass.specs.Areas.{table, stepsIn, Ran}
+use Rattle.pass.proofs.Steps.{turned}
+use Rattle.pass.specs.Areas.{table, stepsIn, Turned}
 use Rattle.pass.proofs.pass.Statement.{statement}
 use Rattle.pass.proofs.pass.Tie as tie
 
 abbrev Inv-loop : tie.InvT-loop
-Inv-loop metrics scores₀ next₀ decisions₀ steps j₀ scores next decisions j =
-    (steps ≡ stepsIn metrics) × (j ≤ steps) × (length scores ≡ 16384) × (length next ≡ 16384) × (length decisions ≡ stepsIn metrics * 256)
-    × Ran metrics (table scores₀) j scores decisions
+Inv-loop metrics scores₀ next₀ start decisions₀ steps j₀ scores next decisions j =
+    (steps ≡ stepsIn metrics) × (j ≤ steps) × (j % 2 ≡ 0) × Turned metrics (table start) j scores next decisions
 
 abbrev μ-loop : tie.MeasureT-loop
-μ-loop metrics scores₀ next₀ decisions₀ steps j₀ scores next decisions j = steps - j
+μ-loop metrics scores₀ next₀ start decisions₀ steps j₀ scores next decisions j = steps - j
+
+-- ---- back from a place to the first step of its turn, to the loop's head, and to the entry
+abbrev half : tie.After-step2 Inv-loop μ-loop → tie.After-step Inv-loop μ-loop
+half c = c .before .before .before .before .before .before .before .before
+
+abbrev head : tie.After-step Inv-loop μ-loop → tie.At-loop Inv-loop μ-loop
+head c = c .before .before .before .before .before
+
+abbrev begun : tie.After-opening Inv-loop μ-loop → tie.Start Inv-loop μ-loop
+begun c = c .before .before .before .before .before .before .before .before .before
+
+abbrev entry : tie.At-loop Inv-loop μ-loop → tie.Start Inv-loop μ-loop
+entry c = begun (c .before .before .before .before .before .before .before)
+
+-- ----
+
+opening-requires : tie.Need-opening-requires Inv-loop μ-loop
+opening-requires c κs = search needs
 
 loop-holds : tie.Need-loop-holds Inv-loop μ-loop
 loop-holds c =
-    let at = c .before .before .before .before in
-    let a = at .args in
-    let ran = ran-none (a .metrics .now) (a .scores .now) (a .decisions .now) (at .pre .1 .0) in
-    (refl, omega arith, at .pre .1 .0, at .pre .1 .1, at .pre .1 .2, ran)
+    let opened = c .before .before .before .before .before .before in
+    let lent = begun opened .pre .0 in
+    (refl, omega (arith, lent .some, lent .even), refl, opened .opening .ensures)
 
-turn-requires : tie.Need-turn-requires Inv-loop μ-loop
-turn-requires c κs =
-    let inv = c .before .before .before .before .loop .inv in
-    (c .before .before .before .before .before .before .before .before .before .pre .0, (inv .2, omega arith, inv .3, inv .4))
+step-requires : tie.Need-step-requires Inv-loop μ-loop
+step-requires c κs = search needs
+
+add-step : tie.Need-add-step Inv-loop μ-loop
+add-step c = search needs
+
+step-requires-2 : tie.Need-step-requires-2 Inv-loop μ-loop
+step-requires-2 c κs =
+    let one = c .before .before .before .before .before .before .before in
+    let at = head one in
+    let turned = at .loop .inv .3 in
+    let lent = entry at .pre .0 in
+    (lent, (one .step .ensures .size, omega (arith, lent .even), turned .ran .held .size, one .step .ensures .room ∙ turned .room))
 
 add-j : tie.Need-add-j Inv-loop μ-loop
-add-j c = search needs
+add-j c =
+    let at = head (half (c .before .before .before .before)) in
+    record { fits = omega (arith, at .loop .inv .0, at .loop .inv .1, entry at .pre .0 .few) }
 
 loop-less : tie.Need-loop-less Inv-loop μ-loop
 loop-less c = search needs
 
 loop-again : tie.Need-loop-again Inv-loop μ-loop
 loop-again c =
-    let at = c .before .before .before .before .before .before .before .before .before .before .before in
-    let a = at .before .before .before .before .before .args in
-    let inv = at .loop .inv in
-    let turned = c .before .before .before .before .before .before .turn .ensures in (
+    let two = c .before .before .before .before in
+    let one = half two in
+    let at = head one in
+    let a = entry at .args in
+    let inv = at .loop .inv in (
       refl,
+      omega (arith, entry at .pre .0 .even),
       omega arith,
-      turned .0 .size,
-      turned .1,
-      turned .0 .room ∙ inv .4,
-      ran-more (a .metrics .now) (table (a .scores .now)) (at .loop .j) (inv .5) (turned .0),
+      turned (a .metrics .now) (table (a .start .now)) (at .loop .j) (inv .3 .room) (inv .3 .ran) (one .step .ensures) (two .step2 .ensures),
     )
 
 same-length : tie.Need-same-length Inv-loop μ-loop
-same-length c = c .before .loop .inv .2 ∙ sym (c .before .before .before .before .before .before .pre .1 .0)
+same-length c = search needs
 
 same-length-2 : tie.Need-same-length-2 Inv-loop μ-loop
-same-length-2 c = c .before .loop .inv .3 ∙ sym (c .before .before .before .before .before .before .pre .1 .1)
+same-length-2 c = search needs
 
 same-length-3 : tie.Need-same-length-3 Inv-loop μ-loop
-same-length-3 c = c .before .loop .inv .4 ∙ sym (c .before .before .before .before .before .before .pre .1 .2)
+same-length-3 c = search needs
 
 returns : tie.Need-returns Inv-loop μ-loop
 returns c =
-    let inv = c .before .loop .inv in
-    let a = c .before .before .before .before .before .before .args in
-    let all : stepsIn (a .metrics .now) ≡ c .before .loop .j = omega arith in
-    (rw all (inv .5), (inv .3, inv .4))
+    let at = c .before in
+    let all : stepsIn (entry at .args .metrics .now) ≡ at .loop .j = omega arith in
+    rw all (at .loop .inv .3)
 
 pub pass-spec : {M : Type 1} → statement M
 pass-spec =
     tie.close
-    (tie.spec Inv-loop μ-loop loop-holds turn-requires add-j loop-less loop-again same-length same-length-2
-    same-length-3 returns)
+    (tie.spec Inv-loop μ-loop opening-requires loop-holds step-requires add-step step-requires-2 add-j loop-less loop-again
+    same-length same-length-2 same-length-3 returns)

@@ -20,8 +20,8 @@ abbrev μ-loop : tie.MeasureT-loop
 μ-loop metrics scores₀ next₀ start₀ decisions₀ steps best₀ pass₀ scores next start decisions best pass = 3 - pass
 
 -- ---- back from a place to the pass that has run, to where it was about to begin, and to the entry
-abbrev ran : tie.After-slice-known9 Inv-loop μ-loop → tie.After-run Inv-loop μ-loop
-ran c = c .before .before .before .before .before .before .before .before
+abbrev ran : tie.After-slice-known8 Inv-loop μ-loop → tie.After-run Inv-loop μ-loop
+ran c = c .before .before .before .before .before .before
 
 abbrev unclosed : tie.After-scan Inv-loop μ-loop → tie.Else1 Inv-loop μ-loop
 unclosed c = c .before .before .before .before
@@ -46,16 +46,16 @@ run-requires : tie.Need-run-requires Inv-loop μ-loop
 run-requires c κs = c .before .before .before .before .loop .inv .3 .lent
 
 same-length : tie.Need-same-length Inv-loop μ-loop
-same-length c = let r = ran (c .before) in same-lengths (entry r .pre) (r .run .ensures .1 .1) .of-scores
+same-length c = let r = ran (c .before) in same-lengths (entry r .pre) (r .run .ensures .1) .of-scores
 
 same-length-2 : tie.Need-same-length-2 Inv-loop μ-loop
-same-length-2 c = let r = ran (c .before) in same-lengths (entry r .pre) (r .run .ensures .1 .1) .of-next
+same-length-2 c = let r = ran (c .before) in same-lengths (entry r .pre) (r .run .ensures .1) .of-next
 
 same-length-3 : tie.Need-same-length-3 Inv-loop μ-loop
-same-length-3 c = let r = ran (c .before) in same-lengths (entry r .pre) (r .run .ensures .1 .1) .of-start
+same-length-3 c = let r = ran (c .before) in same-lengths (entry r .pre) (r .run .ensures .1) .of-start
 
 same-length-4 : tie.Need-same-length-4 Inv-loop μ-loop
-same-length-4 c = let r = ran (c .before) in same-lengths (entry r .pre) (r .run .ensures .1 .1) .of-decisions
+same-length-4 c = let r = ran (c .before) in same-lengths (entry r .pre) (r .run .ensures .1) .of-decisions
 
 returns : tie.Need-returns Inv-loop μ-loop
 returns c =
@@ -64,12 +64,12 @@ returns c =
     let t = r .run .result in (
       ap (λ (n : ℕ). record { how = closing n; word = t .word; score = t .score }) (inv .2)
           ∙ out (inv .3) (r .run .ensures .0) (c .if1 .taken),
-      r .run .ensures .1 .1,
+      r .run .ensures .1,
     )
 
 scan-requires : tie.Need-scan-requires Inv-loop μ-loop
 scan-requires c κs =
-    let lent = ran (c .before .before .before .before) .run .ensures .1 .1 in
+    let lent = ran (c .before .before .before .before) .run .ensures .1 in
     (lent .of-scores, lent .of-start, lent .steps .few, lent .of-decisions)
 
 best-or-last-requires : tie.Need-best-or-last-requires Inv-loop μ-loop
@@ -78,22 +78,22 @@ best-or-last-requires c κs = search needs
 same-length-5 : tie.Need-same-length-5 Inv-loop μ-loop
 same-length-5 c =
     let r = ran (unclosed (c .before .before) .before) in
-    same-lengths (entry r .pre) (r .run .ensures .1 .1) .of-scores
+    same-lengths (entry r .pre) (r .run .ensures .1) .of-scores
 
 same-length-6 : tie.Need-same-length-6 Inv-loop μ-loop
 same-length-6 c =
     let r = ran (unclosed (c .before .before) .before) in
-    same-lengths (entry r .pre) (r .run .ensures .1 .1) .of-next
+    same-lengths (entry r .pre) (r .run .ensures .1) .of-next
 
 same-length-7 : tie.Need-same-length-7 Inv-loop μ-loop
 same-length-7 c =
     let r = ran (unclosed (c .before .before) .before) in
-    same-lengths (entry r .pre) (r .run .ensures .1 .1) .of-start
+    same-lengths (entry r .pre) (r .run .ensures .1) .of-start
 
 same-length-8 : tie.Need-same-length-8 Inv-loop μ-loop
 same-length-8 c =
     let r = ran (unclosed (c .before .before) .before) in
-    same-lengths (entry r .pre) (r .run .ensures .1 .1) .of-decisions
+    same-lengths (entry r .pre) (r .run .ensures .1) .of-decisions
 
 returns-2 : tie.Need-returns-2 Inv-loop μ-loop
 returns-2 c =
@@ -103,38 +103,38 @@ returns-2 c =
     let passed = r .run .ensures in
     let inv = begun r .loop .inv in
     let last : inv .1 ≡ 2 = omega (arith, inv .2, c .before .if2 .taken) in
-    let so-far = counted (inv .3) (passed .0) (best .result) (passed .1 .0) (best .ensures) in
-    (c .best-or-last .ensures ∙ over-all (inv .3) (passed .0) (best .result) (left .if1 .left) last so-far, passed .1 .1)
+    let so-far = counted (inv .3) (passed .0) (best .result) (best .ensures) in
+    (c .best-or-last .ensures ∙ over-all (inv .3) (passed .0) (best .result) (left .if1 .left) last so-far, passed .1)
 
 lower-requires : tie.Need-lower-requires Inv-loop μ-loop
-lower-requires c κs = ran (unclosed (c .before .before) .before) .run .ensures .1 .1 .of-scores
+lower-requires c κs = search needs
 
 add-pass : tie.Need-add-pass Inv-loop μ-loop
 add-pass c =
-    let inv = begun (ran (unclosed (c .before .before .before .before .before) .before)) .loop .inv in
+    let inv = begun (ran (unclosed (c .before .before .before .before .before .before) .before)) .loop .inv in
     omega (arith, inv .2, inv .3 .few)
 
 loop-less : tie.Need-loop-less Inv-loop μ-loop
 loop-less c =
-    let inv = begun (ran (unclosed (c .before .before .before .before .before) .before)) .loop .inv in
-    omega (arith, inv .2, inv .3 .few, c .before .before .before .before .if2 .left)
+    let inv = begun (ran (unclosed (c .before .before .before .before .before .before) .before)) .loop .inv in
+    omega (arith, inv .2, inv .3 .few, c .before .before .before .before .before .if2 .left)
 
 loop-again : tie.Need-loop-again Inv-loop μ-loop
 loop-again c =
-    let best = c .before .before .before .before .before .scan in
-    let left = unclosed (c .before .before .before .before .before) in
+    let best = c .before .before .before .before .before .before .scan in
+    let left = unclosed (c .before .before .before .before .before .before) in
     let r = ran (left .before) in
     let passed = r .run .ensures in
     let inv = begun r .loop .inv in
-    let lent = passed .1 .1 in
+    let lent = passed .1 in
     let low = c .before .before .lower .ensures in
-    let few : suc (inv .1) ≤ 2 = omega (arith, inv .2, inv .3 .few, c .before .before .before .before .if2 .left) in
-    let so-far = counted (inv .3) (passed .0) (best .result) (passed .1 .0) (best .ensures) in (
+    let few : suc (inv .1) ≤ 2 = omega (arith, inv .2, inv .3 .few, c .before .before .before .before .before .if2 .left) in
+    let so-far = counted (inv .3) (passed .0) (best .result) (best .ensures) in (
       refl,
       suc (inv .1),
       add-one _ ∙ ap suc (inv .2),
       next-begins (inv .3) (passed .0) (best .result) (left .if1 .left) few so-far (low .at)
-          (record { steps = lent .steps; of-scores = low .size; of-next = lent .of-next; of-start = lent .of-start; of-decisions = lent .of-decisions }),
+          (record { steps = lent .steps; of-scores = lent .of-scores; of-next = lent .of-next; of-start = low .size; of-decisions = lent .of-decisions }),
     )
 
 pub search-spec : {M : Type 1} → statement M
