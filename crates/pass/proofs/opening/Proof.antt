@@ -1,4 +1,4 @@
--- `pass::opening` meets its contract. Assumes nothing.
+-- `pass::opening` meets its contract: two steps from the start scores (`opened`). Assumes nothing.
 use borrow.Author.Needs.{needs}
 use Rattle.pass.proofs.Steps.{opened}
 use Rattle.pass.proofs.opening.Statement.{statement}
