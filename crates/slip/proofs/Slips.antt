@@ -5,7 +5,7 @@ use mathlib.Core.List.{List}
 use mathlib.Core.Path.{_≡_, refl, sym, ap, subst, _∙_}
 use native.Mathlib.Nat.{mod-eq-of-lt}
 use native.Mathlib.Omega.{arith}
-use borrow.Author.Tests.{leb-true, ltb-true, eqb-true, lt-ltb, eq-eqb}
+use borrow.Author.Tests.{leb-true, ltb-true, eqb-true, lt-ltb, eq-eqb, not-false}
 use lib.Dec.{T, eqb, leb, ltb}
 use lib.Ieee.{binary32, fits, ofBits, toBits}
 use lib.Ieee.Bits.{ofBits-toBits, toBits-lt, is-true}
@@ -13,7 +13,7 @@ use lib.Ieee.Scale.{finite}
 use lib.ListN.{length}
 use Rattle.util.specs.Choose.{choose}
 use Rattle.util.specs.Refusal.{Outcome, refused, accepted, afterwards}
-use Rattle.util.proofs.Choose.{chosen, not-chosen}
+use Rattle.util.proofs.Choose.{chosen, not-chosen, past-cause}
 use Rattle.frame.specs.Format.{named, headerBits}
 use Rattle.wire.specs.Bytes.{big, numberAt}
 use Rattle.wire.proofs.Bytes.{read-back}
@@ -138,11 +138,14 @@ read-written f out long e =
 
 -- ---- and nothing else is read
 
-spelt-slip : (b : List ℕ) → isSlip b ≡ true → (lawful (taken b) ≡ true) × (spell (taken b) ≡ b)
+pub spelt-slip : (b : List ℕ) → isSlip b ≡ true → (lawful (taken b) ≡ true) × (spell (taken b) ≡ b)
 unfolding isSlip
 spelt-slip b e =
     let both = and-eq-true-iff (lawful (taken b)) (same (spell (taken b)) b) .0 e in
     (both .0, same-is (spell (taken b)) b (both .1))
+
+pub length-slip : (b : List ℕ) → isSlip b ≡ true → length b ≡ 44
+length-slip b e = sym (ap length (spelt-slip b e .1)) ∙ forty-four (taken b)
 
 -- the reader answers with the lawful slip that is spelt as the string, and with 13 where there is none
 pub reads : (b : List ℕ) → Reads b (reading b)
@@ -151,6 +154,17 @@ reads b = by (isSlip b) refl
     by : (t : Bool) → isSlip b ≡ t → Reads b (choose (not t) (refused 13) (accepted (taken b)))
     by true e = spelt-slip b e
     by false e = (refl, λ f l s. true≢false (sym (subst (λ (c : List ℕ). isSlip c ≡ true) s (slip-spelt f l)) ∙ e))
+
+-- so an answer tells whether the string is a slip
+pub is-read : (b : List ℕ) (f : Fields) → accepted f ≡ reading b → isSlip b ≡ true
+is-read b f e = not-false (isSlip b) (past-cause (not (isSlip b)) 13 (accepted (taken b)) f (sym e) .0)
+
+pub not-read : (b : List ℕ) (k : ℕ) → refused k ≡ reading b → isSlip b ≡ false
+not-read b k e = by (isSlip b) e
+  where
+    by : (t : Bool) → refused k ≡ choose (not t) (refused 13) (accepted (taken b)) → t ≡ false
+    by true e = let never : _≡_ {A = ℕ} 0 1 = cc in absurd (omega arith)
+    by false e = refl
 
 -- which says all: no other answer is so
 pub reads-only : (b : List ℕ) (o : Outcome Fields) → Reads b o → o ≡ reading b

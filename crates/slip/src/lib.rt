@@ -159,8 +159,8 @@ fn put_fields(f: Fields, out: &mut [u8])
     put_last(out, outcome, f.start, f.segment);
 }
 
-// The values that stand at a slip's places.
-fn take_fields(bytes: &[u8]) -> Fields
+// Inside: the values that stand at a slip's places.
+pub fn take_fields(bytes: &[u8]) -> Fields
     requires { ⌜ length (now bytes) ≡ 44 ⌝ }
     ensures { λ r. ⌜ r ≡ taken (now (bytes .entry)) ⌝ }
 {

@@ -1,0 +1,5 @@
+-- What a reader must believe of this crate: document 02, #105.
+pub mod Places
+pub mod Rules
+pub mod Putting
+pub mod Series

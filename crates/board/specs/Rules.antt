@@ -1,0 +1,39 @@
+-- Document 02, #105: the yard's rules, by which a new slip for a listed segment is judged.
+use Prim.Native.Nat.{ℕ}
+use mathlib.Core.Bool.{Bool, true, false}
+use mathlib.Core.List.{List}
+use mathlib.Core.Path.{_≡_}
+use lib.Dec.{eqb, ltb}
+use lib.Ieee.{Float}
+use Rattle.util.specs.Choose.{choose}
+use Rattle.trellis.specs.Answer.{Outcome, Sure, Kept, Open}
+use Rattle.outcome.specs.Numbers.{outcomeAt}
+use Rattle.slip.specs.Slips.{taken}
+use Rattle.slip.specs.declared.Fields.{Fields}
+
+-- a rule says of the listed slip and of the new one, in this order, whether the new one replaces it
+abbrev pub Rule : Type 0
+Rule = Fields → Fields → Bool
+
+-- which of the two is left
+abbrev pub judge : Rule → List ℕ → List ℕ → List ℕ
+judge rule listed new = choose (rule (taken listed) (taken new)) new listed
+
+-- the best reading first: Sure, Kept, Open. Neither pass nor score counts. This is no outcome byte.
+abbrev pub rank : Outcome Float → ℕ
+rank (Sure x pass) = 0
+rank (Kept x) = 1
+rank (Open x) = 2
+
+abbrev pub rankOf : Fields → ℕ
+rankOf f = rank (outcomeAt (f .outcome) (f .pass) (f .score))
+
+-- the start is tried first: a later one replaces an earlier one. Between equal starts a better reading replaces a worse one. If both are
+-- equal the listed slip remains.
+abbrev pub startFirst : Rule
+startFirst listed new = choose (eqb (listed .start) (new .start)) (ltb (rankOf new) (rankOf listed)) (ltb (listed .start) (new .start))
+
+-- ---- what a rule that orders slips has: none replaces itself, and what does not replace a slip does not replace one that did
+pub record Orders (rule : Rule) : Type 0 where
+  pub not-itself : (f : Fields) → rule f f ≡ false
+  pub onward : (f g h : Fields) → rule f g ≡ true → rule f h ≡ false → rule g h ≡ false
