@@ -1,9 +1,9 @@
-/* The receiving core of the ion HF modem, the sending halves of its interleavers and its burst slips, proved: the functions of the
- * static library libion.a (`rt staticlib ion`).
+/* The receiving core of the ion HF modem, the sending halves of its interleavers, its burst slips and the segment board, proved: the
+ * functions of the static library libion.a (`rt staticlib ion`).
  *
  * Every function takes any numbers and any buffers of the lengths that are told, and ends. It returns 0, or the number of the
  * refusal (ion_refusal has a text for each); of several causes the one that comes first in the order 1, 12, 2, 3, 4, 5, 11, 6, 7, 8, 9,
- * 10, 13. Results and lent buffers are written only where 0 is returned.
+ * 10, 13, 14. Results and lent buffers are written only where 0 is returned.
  *
  * Buffers: a pointer must be valid for its length and aligned as its type asks; with length 0 it may be NULL. Lent buffers must
  * overlap neither each other nor an input. Nothing is kept between calls, so any threads may call at once over buffers of their own.
@@ -31,10 +31,10 @@ extern "C" {
 
 /* The number of the last change request that is in; 0 is the base. Answer, outcome and tracker will grow. The library has the number
  * in a symbol's name, which every file that includes this header asks for: a library of another version does not link. */
-#define ION_VERSION 104
-uint32_t ion_version_104(void);
+#define ION_VERSION 105
+uint32_t ion_version_105(void);
 #if defined(__GNUC__)
-__attribute__((used)) static uint32_t (*const ion_version)(void) = ion_version_104;
+__attribute__((used)) static uint32_t (*const ion_version)(void) = ion_version_105;
 #endif
 
 /* modes, kinds, the form of data, the first and the last layout, what was heard of a symbol, outcomes of a header read */
@@ -46,12 +46,13 @@ enum { ION_MISSED = 0, ION_HEARD = 1 };
 enum { ION_SURE = 0, ION_KEPT = 1, ION_OPEN = 2 };
 
 /* sizes: header symbols (n below, and as many header bits) by kind, data symbols of so many bits and their slots, terms and values of a
- * symbol, places of a score area, words of decisions for each header symbol, bytes of a slip, the most data bits, data symbols, CRC bits,
- * calls of a tracker (and shifts), blocks */
+ * symbol, places of a score area, words of decisions for each header symbol, bytes of a slip, places and bytes of a board, the most data
+ * bits, data symbols, CRC bits, calls of a tracker (and shifts), blocks */
 #define ION_HEADER_SYMBOLS(kind) ((kind) == ION_DATA ? 64 : 48)
 #define ION_DATA_SYMBOLS(bits) (((size_t)(bits) + 4) / 5)
 #define ION_SLOTS(bits) (5 * ION_DATA_SYMBOLS(bits))
 enum { ION_TERMS = 260, ION_VALUES = 32, ION_STATES = 16384, ION_DECISIONS = 256, ION_SLIP = 44 };
+enum { ION_BOARD_PLACES = 512, ION_BOARD_BYTES = 22528 };
 enum { ION_MOST_BITS = 10240, ION_MOST_SYMBOLS = 2048, ION_MOST_CRC_BITS = 1024, ION_MOST_CALLS = 2048, ION_MOST_BLOCKS = 64 };
 
 /* What a number says; of 0 that it is no refusal. */
@@ -70,7 +71,8 @@ static inline const char *ion_refusal(uint32_t number) {
         "over 64 blocks, or a block out of range or falling",
         "a symbol value above 31",
         "a layout not from 1 to 8",
-        "bytes that are no slip, or values that no slip holds",
+        "bytes that are no slip, values that no slip holds, or a board that is broken",
+        "a slip for an unlisted segment where 512 are listed",
     };
     return number < sizeof text / sizeof *text ? text[number] : "no number of this library";
 }
@@ -155,6 +157,23 @@ static inline uint32_t ion_slip_to_bytes(const ion_slip *s, uint8_t *slip, size_
 static inline uint32_t ion_slip_from_bytes(ion_slip *s, const uint8_t *slip, size_t slip_len) {
     return ion_read_slip(slip, slip_len, &s->mode, &s->kind, &s->word, &s->outcome, &s->pass, &s->score, &s->start, &s->segment);
 }
+
+/* Puts a slip on the segment board, which shows one slip a segment, segments rising, at most 512. board: ION_BOARD_BYTES bytes, lent, 512
+ * places of 44; place i begins at board + 44*i, and ion_slip_from_bytes reads it. *count: how many of them are listed, from the first on;
+ * an empty board is a count of 0 over any bytes. Places past the count are not read, and of them only the one that a new segment fills is
+ * written. slip: a slip's bytes, outside the board.
+ * - Its segment is listed: it takes the listed slip's place where its start sample is later, or where both starts are equal and its reading
+ *   is better: Sure is better than Kept, and Kept than Open; pass, score, word, mode and kind have no part in it. Else the listed slip
+ *   remains, and nothing is written; so a slip put a second time changes nothing.
+ * - Its segment is not listed: it is put where segments go on rising, those behind it move up by one place, and *count grows by one.
+ * 0 is returned in each of these cases.
+ * Proved: after any series of strings from an empty board, those refused set aside, the board shows for each segment the slip that the two
+ * rules leave of the segment's own slips in order of arrival. A segment once listed stays listed: so of one segment's slips all are
+ * accepted or none, and listed are the first 512 different segments that came. No put of such a series is refused for its board.
+ * Refused, the board and *count as they were: 4 (board_len is not ION_BOARD_BYTES), 13 (*count above 512, a listed place that is no slip,
+ * segments of listed places that do not rise, one standing twice among them, or slip is no slip, whatever its length), 14 (the segment is
+ * not listed, and 512 are). */
+uint32_t ion_put_slip(uint8_t *board, size_t board_len, uint32_t *count, const uint8_t *slip, size_t slip_len);
 
 /* Metrics and soft bits of a burst of S = ceil(bits/5) data symbols in layout k. symbols: ION_BIT_FORM, anything else symbol form. window:
  * one of the mode's three, in samples of the baseband. terms: S*260. blanked: S counts of blanked audio samples, each over the

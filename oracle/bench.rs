@@ -1,20 +1,23 @@
 // Times of the entries against the Rust's, ours through the C functions of libion.a, the same inputs in one run, taking turns, in CPU time: median
-// and spread of the ratios. Then soft values by the number of symbols, as a plot. Built and run by bench.sh.
+// and spread of the ratios; slips by themselves, and puts on a board against the second board of board.rs. Then soft values by the number of
+// symbols, as a plot. Built and run by bench.sh.
+mod board;
 mod clock;
 #[allow(dead_code)]
 mod face;
 mod inputs;
 mod slip;
 
+use board::Board;
 use clock::{spread, timed};
 use face::{Header, Soft};
-use inputs::{Dice, lawful_slip, rows, sample, styled};
+use inputs::{Dice, board_of, lawful_slip, rows, sample, styled};
 use ion::phy_mfsk::hook::{Kind, MfskMode, Tracker, air, code, decode_terms, soft_terms};
 use slip::Slip;
 use std::fmt::Write;
 use std::hint::black_box;
 
-/// Pairs (ours, the Rust's) in milliseconds: a warm-up that is not counted, then the repeats, the side that begins changing by turns.
+/// Pairs (ours, the other side's) in milliseconds: a warm-up that is not counted, then the repeats, the side that begins changing by turns.
 fn pairs(repeats: usize, mut one: impl FnMut(u64, bool) -> (f64, f64)) -> Vec<(f64, f64)> {
     one(0, true);
     (1..=repeats as u64).map(|i| one(i, i % 2 == 0)).collect()
@@ -123,6 +126,27 @@ fn slips(repeats: usize) {
     println!("slip written, slip read, ns a call: {}; {} (median, least, greatest)", told(writes), told(reads));
 }
 
+/// Puts on a board with so many listed, 100 a repeat, in microseconds a put: against the second board of board.rs, the Rust has none. Each finds
+/// as many listed: the count is set back, so that one more at the front lets the last one fall away.
+fn puts(repeats: usize, name: &str, listed: u16, number: u32, slip_at: impl Fn(u16, Slip) -> Slip) {
+    let done = pairs(repeats, |i, first| {
+        let mut d = Dice(7 << 50 | i << 20);
+        let mut bytes = board_of(&mut d, &(0..listed).map(|i| 1000 + 2 * i).collect::<Vec<u16>>());
+        bytes[44 * 256 + 31..44 * 256 + 39].fill(0); // the start of segment 1512
+        let slips: Vec<Vec<u8>> = (0..100).map(|j| slip_at(j, lawful_slip(&mut d)).written(44).unwrap()).collect();
+        let (mut ours, mut second) = (bytes.clone(), Board { bytes, count: 0 });
+        let by_us = |s: &Vec<u8>| face::put_slip(&mut ours, &mut (listed as u32), black_box(s));
+        let by_second = |s: &Vec<u8>| {
+            second.count = listed as u32;
+            second.put(black_box(s))
+        };
+        let ((us, k), (theirs, l)) = by_turns(first, || slips.iter().map(by_us).max(), || slips.iter().map(by_second).max());
+        assert!(k == Some(number) && l == k && ours == second.bytes);
+        (us * 10.0, theirs * 10.0)
+    });
+    line(name, &done);
+}
+
 const SIZES: [usize; 9] = [64, 128, 256, 512, 768, 1024, 1280, 1536, 2048];
 /// Name and colour of a line of the plot.
 const LINES: [(&str, &str); 4] = [("ours, bit form", "#0b5cad"), ("ours, symbol form", "#58a6e8"), ("the Rust, bit form", "#a33b00"), ("the Rust, symbol form", "#ee8a4a")];
@@ -191,6 +215,12 @@ fn main() {
     sending(repeats, "bits sent, 10,240", false);
     sending(repeats, "symbols sent, 2,048", true);
     slips(repeats);
+    println!("ours / a map, {repeats} repeats         median   least  greatest   ours, µs     a map, µs");
+    // a listed segment's start rises from put to put; an unlisted one lies between listed ones; a new one before all, falling from put to put
+    puts(repeats, "slip put, replaces one of 512", 512, 0, |j, s| Slip { start: 1 + j as u64, segment: 1512, ..s });
+    puts(repeats, "slip put, one of 512 remains", 512, 0, |_, s| Slip { start: 0, outcome: 2, pass: 0, segment: 1512, ..s });
+    puts(repeats, "slip put, refused with 14", 512, 14, |_, s| Slip { segment: 1513, ..s });
+    puts(repeats, "slip put, in front of 511", 511, 0, |j, s| Slip { segment: 999 - j, ..s });
     let (few, mut lines): (usize, [Vec<f64>; 4]) = (repeats.div_ceil(4), Default::default());
     for n in SIZES {
         for form in 0..2 {

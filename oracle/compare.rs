@@ -1,6 +1,8 @@
 // Holds the proved parts against the Rust, exhaustively where that is possible, and prints counts.
 // A section that differs prints its smallest input, and the run ends with status 1. The argument is how many headers of each style are read.
 use ion::phy_mfsk::hook::{Fmt, Kind, MfskMode, air, windows};
+mod board;
+mod boards;
 mod drift;
 mod face;
 mod inputs;
@@ -217,6 +219,7 @@ fn main() {
     sent::all(&mut wrong);
     sending::all(&mut wrong);
     slips::all(&mut wrong);
+    boards::all(&mut wrong);
     soft::all(&mut wrong);
     let headers = std::env::args().nth(1).map_or(2_400, |n| n.parse().expect("how many headers of each style"));
     read::all(&mut wrong, headers);

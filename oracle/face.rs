@@ -21,6 +21,7 @@ unsafe extern "C" {
         slip: *const u8, slip_len: usize, mode: *mut u8, kind: *mut u8, word: *mut u64, outcome: *mut u8, pass: *mut u8, score: *mut f32, start: *mut u64,
         segment: *mut u16,
     ) -> u32;
+    fn ion_put_slip(board: *mut u8, board_len: usize, count: *mut u32, slip: *const u8, slip_len: usize) -> u32;
     fn ion_fit_drift(mode: u8, places: *const u32, places_len: usize, timings: *const f64, timings_len: usize, drift: *mut f64) -> u32;
     fn ion_track_timing(
         mode: u8, n: *mut usize, shift: *mut i32, tnum: *mut f64, tden: *mut f64, drift: *mut f64, blocks: *mut usize, shifts: *mut i32, shifts_len: usize,
@@ -114,6 +115,10 @@ pub fn read_slip(string: &[u8], s: &mut Slip) -> u32 {
     let k = unsafe { ion_read_slip(string.as_ptr(), string.len(), mode, kind, &mut s.word, outcome, pass, &mut score, &mut s.start, &mut s.segment) };
     s.score = score.to_bits();
     k
+}
+
+pub fn put_slip(board: &mut [u8], count: &mut u32, slip: &[u8]) -> u32 {
+    unsafe { ion_put_slip(board.as_mut_ptr(), board.len(), count, slip.as_ptr(), slip.len()) }
 }
 
 pub fn fit_drift(mode: u8, places: &[u32], timings: &[f64], drift: &mut f64) -> u32 {

@@ -1,5 +1,5 @@
 // Inputs that more than one of the programs here draws: a stream of words, a header's terms in nine styles, terms and counts of soft
-// values in ten and five, and the samples of a tracker's series in eight shapes.
+// values in ten and five, the samples of a tracker's series in eight shapes, slips and strings that are none, and boards of them.
 #![allow(dead_code)] // no program draws all of them
 use super::slip::Slip;
 use ion::phy_mfsk::hook::{Fmt, Kind, MfskMode, Terms, air};
@@ -184,5 +184,89 @@ pub fn spoil_slip(d: &mut Dice, s: &mut Slip) {
             4 => s.pass = d.of(&[0, 1, 2, 3, 4, 255]),
             _ => s.score = d.of(&NOT_FINITE),
         }
+    }
+}
+
+/// A slip's bytes with one to three of them changed, some only in a bit, or as they were; of some i cut off or gone on, or any bytes at all.
+pub fn damage_slip(d: &mut Dice, i: u64, bytes: &mut Vec<u8>) {
+    for _ in 0..d.below(4) {
+        let at = d.below(44) as usize;
+        bytes[at] = if d.below(2) == 0 { bytes[at] ^ 1 << d.below(8) } else { d.word() as u8 };
+    }
+    if i % 4 == 0 {
+        let any = d.below(200) as usize;
+        let length = d.of(&[0, 1, 43, 45, 88, any]);
+        bytes.resize_with(length, || d.word() as u8);
+    }
+    if i % 16 == 1 {
+        bytes.fill_with(|| d.word() as u8);
+    }
+}
+
+/// Start samples that lie apart in one byte or another, or in the highest bit.
+pub const STARTS: [u64; 7] = [0, 1, 0x100, 1 << 32, (1 << 63) - 1, 1 << 63, u64::MAX];
+/// Segments of which each byte rises while the other falls, both ends, and both sides of the highest bit.
+pub const SEGMENTS: [u16; 9] = [0, 1, 0xFF, 0x100, 0x1FF, 0x7FFF, 0x8000, 0xFF00, 0xFFFF];
+
+/// The bytes of a slip of one segment, its start one of few, so that two often have the same; the other values are any.
+pub fn slip_for(d: &mut Dice, segment: u16) -> Vec<u8> {
+    let slip = Slip { start: d.of(&STARTS), segment, ..lawful_slip(d) };
+    slip.written(44).unwrap()
+}
+
+/// One of these segments, one of those above, or any.
+pub fn segment_near(d: &mut Dice, listed: &[u16]) -> u16 {
+    match d.below(3) {
+        0 if !listed.is_empty() => d.of(listed),
+        1 => d.of(&SEGMENTS),
+        _ => d.word() as u16,
+    }
+}
+
+/// What a board's places hold past its count: any bytes, one byte everywhere, or slips, which a board that looked there would take for listed.
+pub fn left_over(d: &mut Dice) -> Vec<u8> {
+    let byte = d.of(&[0, 0xFF, 0xA5]);
+    match d.below(3) {
+        0 => (0..2816).flat_map(|_| d.word().to_le_bytes()).collect(),
+        1 => vec![byte; 22_528],
+        _ => {
+            // some rise from place to place, others come in any order
+            let rising = d.below(2) == 0;
+            let segment = |d: &mut Dice, i: u16| if rising { 100 * i } else { d.of(&SEGMENTS) };
+            (0..512).flat_map(|i| { let g = segment(d, i); slip_for(d, g) }).collect()
+        }
+    }
+}
+
+/// So many different segments, rising, one in eight drawn from those above.
+pub fn segments(d: &mut Dice, n: usize) -> Vec<u16> {
+    let mut all = std::collections::BTreeSet::new();
+    while all.len() < n {
+        all.insert(if d.below(8) == 0 { d.of(&SEGMENTS) } else { d.word() as u16 });
+    }
+    all.into_iter().collect()
+}
+
+/// A board that lists a slip for each of these segments.
+pub fn board_of(d: &mut Dice, segments: &[u16]) -> Vec<u8> {
+    let mut bytes = left_over(d);
+    for (place, &segment) in bytes.chunks_mut(44).zip(segments) {
+        place.copy_from_slice(&slip_for(d, segment));
+    }
+    bytes
+}
+
+/// Breaks a board, or its count: a listed byte changed, two places exchanged, one repeated, the count over places that are not listed, or
+/// out of range, by few or by so much that its lower half is in range. Some of it leaves a good board.
+pub fn break_board(d: &mut Dice, bytes: &mut [u8], count: &mut u32) {
+    let n = (*count as u64).clamp(1, 512);
+    let (i, j) = (44 * d.below(n) as usize, 44 * d.below(n) as usize);
+    match d.below(6) {
+        0 => bytes[i + d.below(44) as usize] ^= 1 << d.below(8),
+        1 => (0..44).for_each(|k| bytes.swap(i + k, j + k)),
+        2 => bytes.copy_within(i..i + 44, j),
+        3 => *count = count.saturating_add(1 + d.below(3) as u32).min(512),
+        4 => *count = d.of(&[513, 514, 1024, 0x8000_0000, u32::MAX]),
+        _ => *count |= d.of(&[1 << 10, 1 << 16, 1 << 31]),
     }
 }

@@ -1,9 +1,11 @@
 // Writes recorded answers of the Rust to standard output, 17 bytes a record: for crates/vectors/stdin, or with the word
-// `series` fits and series of the tracker, for crates/series/stdin.
+// `series` fits and series of the tracker, and of slips put on a board by the model of board.rs, for crates/series/stdin.
 use ion::phy_mfsk::hook::{Fmt, Kind, MfskMode, Terms, Tracker, air, code, decode_terms, decode_terms_told, blanked_frac, fit_drift, soft_terms, windows};
+use board::Board;
 use slip::Slip;
 use std::io::Write;
 
+mod board;
 mod slip;
 
 /// The terms that crates/vectors works out from a seed: whole numbers from -2 to 2, with the values of a header raised
@@ -325,6 +327,92 @@ fn drifts(put: Put) {
     }
 }
 
+// A series of slips put on a board, for crates/series. `what` is 200. `asked` has a seed in bits 0 to 31, how many puts (n) in bits 32 to 47,
+// and a style in bits 48 and 49: an even one has few segments, an odd one many; 2 and 3 have damage. All numbers are u64; mix64 is the
+// papers'.
+//
+// The board: 22,528 bytes, byte i holds mix64(seed xor i) % 256; the count is 0.
+//
+// Put j, for j = 0 to n - 1, draws four words:
+//   x = mix64(seed xor (j << 32)), y = mix64(x), z = mix64(y), w = mix64(z)
+// and spells the slip with
+//   mode = x % 2, kind = (x / 2) % 3, outcome = (x / 8) % 3, pass = 1 + (x / 32) % 3 where the outcome is 0, else 0
+//   score's pattern = (y % 2) * 0x8000_0000 + (y / 2) % 0x7F80_0000
+//   word = z where the kind is 1, else z >> 16
+//   start = (((x >> 8) % 4) << 62) xor ((x >> 10) % 2)
+//   segment = (x >> 16) % 8 in the styles 0 and 2, ((x >> 16) % 2048) * 31 in 1 and 3
+// in a string of 45 bytes, of which the last is 0, and puts its first 44 on the board. In the styles 2 and 3 w % 16 says what is otherwise:
+//   0: byte (w >> 8) % 44 of the string is xored with 1 << ((w >> 16) % 8)
+//   1: the first (w >> 8) % 44 bytes of the string are put
+//   2: all 45 are put
+//   3: before the put the count is raised by one, and after it set to what it was (no place past it is a slip: it is refused)
+//   4: before the put the count is set to 513 + ((w >> 8) % 2) * 65535, and after it to what it was
+//   5: the first 22,527 bytes of the board are lent, and the first (w >> 8) % 45 bytes of the string put
+//   6: before the put byte 43 of the board is xored with 1 << ((w >> 16) % 8), and after it once more where it was refused
+//   7: likewise byte (w >> 8) % 44 of the board
+// and any other leaves the put as it is.
+//
+// The answer is a digest: h = seed; after each put h = mix64(h xor (number + 256 * count)), the number being the put's answer, 0 or the
+// refusal's (13, not 2^32 + 13), and the count as the put left it, before it is set back; at the end, for each of the 22,528 bytes of the
+// board, the first one first, h = mix64(h xor byte).
+fn board_digest(asked: u64) -> u64 {
+    let (seed, n, style) = (asked % REFUSED, (asked >> 32) % 65536, (asked >> 48) % 4);
+    let mut board = Board { bytes: (0..board::BYTES as u64).map(|i| air::mix64(seed ^ i) as u8).collect(), count: 0 };
+    let mut h = seed;
+    for j in 0..n {
+        let x = drawn(seed, j as usize);
+        let y = air::mix64(x);
+        let z = air::mix64(y);
+        let (w, kind, outcome) = (air::mix64(z), (x / 2 % 3) as u8, (x / 8 % 3) as u8);
+        let slip = Slip {
+            mode: (x % 2) as u8,
+            kind,
+            word: z >> if kind == 1 { 0 } else { 16 },
+            outcome,
+            pass: if outcome == 0 { 1 + (x / 32 % 3) as u8 } else { 0 },
+            score: (y % 2) as u32 * 0x8000_0000 + (y / 2 % 0x7F80_0000) as u32,
+            start: (x >> 8) % 4 << 62 ^ (x >> 10) % 2,
+            segment: if style % 2 == 1 { (x >> 16) % 2048 * 31 } else { (x >> 16) % 8 } as u16,
+        };
+        let mut string = [slip.written(44).unwrap(), vec![0]].concat();
+        let (number, bit, was) = ((w >> 8) as usize, 1u8 << (w >> 16) % 8, board.count);
+        let (mut part, mut last, mut at) = (44, None, None);
+        match if style > 1 { w % 16 } else { 15 } {
+            0 => string[number % 44] ^= bit,
+            1 => part = number % 44,
+            2 => part = 45,
+            3 => board.count = was + 1,
+            4 => board.count = 513 + (number % 2 * 65535) as u32,
+            5 => (part, last) = (number % 45, board.bytes.pop()),
+            6 => at = Some(43),
+            7 => at = Some(number % 44),
+            _ => (),
+        }
+        let lent = board.count;
+        at.iter().for_each(|&i: &usize| board.bytes[i] ^= bit);
+        let answer = board.put(&string[..part]) as u64;
+        h = air::mix64(h ^ (answer + 256 * board.count as u64));
+        at.iter().filter(|_| answer != 0).for_each(|&i| board.bytes[i] ^= bit);
+        board.bytes.extend(last);
+        if lent != was {
+            board.count = was;
+        }
+    }
+    board.bytes.iter().fold(h, |h, &b| air::mix64(h ^ b as u64))
+}
+
+/// Document 02, #105: few segments, boards that fill, and both with damage.
+fn boards(put: Put) {
+    let few = [0, 1, 2, 3, 4, 6, 9, 14, 20, 40, 70, 120].map(|n| (0, n));
+    let many = [1, 2, 3, 10, 100, 250, 400, 550, 600, 650, 700, 700].map(|n| (1, n));
+    let few_damaged = [1, 2, 4, 8, 12, 20, 30, 50, 80, 120, 200].map(|n| (2, n));
+    let many_damaged = [20, 100, 400, 1600, 1600].map(|n| (3, n));
+    for ((style, n), seed) in few.into_iter().chain(many).chain(few_damaged).chain(many_damaged).zip(10_500u64..) {
+        let asked = seed | n << 32 | style << 48;
+        put(200, asked, board_digest(asked));
+    }
+}
+
 fn main() {
     let mut out = Vec::new();
     let mut put = |what: u8, asked: u64, answer: u64| {
@@ -333,7 +421,10 @@ fn main() {
         out.extend(answer.to_le_bytes());
     };
     match std::env::args().nth(1).as_deref() {
-        Some("series") => drifts(&mut put),
+        Some("series") => {
+            drifts(&mut put);
+            boards(&mut put);
+        }
         _ => vectors(&mut put),
     }
     std::io::stdout().write_all(&out).unwrap();

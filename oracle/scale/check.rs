@@ -34,7 +34,7 @@ impl Bits for f64 {
 
 pub const KINDS: usize = 8;
 /// Every refusal's number is below this.
-pub const NUMBERS: usize = 14;
+pub const NUMBERS: usize = 15;
 
 #[derive(Default)]
 pub struct Check {

@@ -1,6 +1,8 @@
-// Runs all eleven entries side by side at scale: ours through the C functions of libion.a, the Rust's through the hook, and for slips,
-// which the Rust has not, the second writer and reader of slip.rs.
+// Runs all twelve entries side by side at scale: ours through the C functions of libion.a, the Rust's through the hook, and for slips and
+// the board, which the Rust has not, the second writer and reader of slip.rs and the second board of board.rs.
 // Built and run by scale.sh, whose head says what can be asked.
+#[path = "../board.rs"]
+mod board;
 #[path = "../face.rs"]
 mod face;
 #[path = "../inputs.rs"]
@@ -10,6 +12,7 @@ mod made;
 #[path = "../slip.rs"]
 mod slip;
 
+mod boards;
 mod check;
 mod headers;
 mod jobs;
@@ -107,7 +110,7 @@ fn main() {
     if let Some(folder) = &a.replay {
         exit(replay::all(&o, folder, a.plant.map(|p| (p.1, p.2))));
     }
-    let mut jobs: Vec<Job> = small::jobs().into_iter().chain(sending::jobs()).chain(slips::jobs()).chain(tracker::jobs()).chain(soft::jobs()).chain(headers::jobs()).collect();
+    let mut jobs: Vec<Job> = small::jobs().into_iter().chain(sending::jobs()).chain(slips::jobs()).chain(boards::jobs()).chain(tracker::jobs()).chain(soft::jobs()).chain(headers::jobs()).collect();
     let names: Vec<String> = jobs.iter().map(|j| j.name()).collect();
     for name in a.only.iter().chain(a.plant.iter().map(|p| &p.0)) {
         if !names.contains(name) {
@@ -136,7 +139,7 @@ fn main() {
     let done: Vec<(&Job, Tally)> = jobs.iter().map(|j| (j, run(&o, j, a.seed, a.threads, plant_in(j), &mut progress))).collect();
     progress.end();
     table::print(&done);
-    println!("(a tracker's inputs are series or states, its answers and refusals are calls)");
+    println!("(a tracker's inputs are series or states, random slips are put in series; their answers and refusals are calls)");
     for (job, t) in done.iter().filter(|(_, t)| t.rivals.out > 0) {
         println!("{}, {}", job.name(), t.rivals.line());
     }
@@ -146,7 +149,8 @@ fn main() {
             wrong.push(format!("{}: {} inputs of {}", job.name(), t.inputs, job.inputs));
         }
         let told: u64 = t.answers.iter().chain(&t.refused).sum();
-        if told < t.inputs || (job.entry != "tracker" && told != t.inputs && t.differ == 0) {
+        let series = job.entry == "tracker" || job.name() == "slip put/random";
+        if told < t.inputs || (!series && told != t.inputs && t.differ == 0) {
             wrong.push(format!("{}: {told} calls of {} inputs are told", job.name(), t.inputs));
         }
         if let Some(k) = (0..check::NUMBERS).find(|&k| t.refused[k] > 0 && !job.numbers.contains(&(k as u32))) {

@@ -1,7 +1,7 @@
 // Slips: the writer and the reader, against the second ones of slip.rs.
 use crate::check::Check;
 use crate::face;
-use crate::inputs::{Dice, lawful_slip, spoil_slip};
+use crate::inputs::{Dice, damage_slip, lawful_slip, spoil_slip};
 use crate::jobs::{Job, Oracle};
 use crate::slip::{Slip, read};
 
@@ -64,21 +64,9 @@ fn read_random(_: &Oracle, d: &mut Dice, _: u64, c: &mut Check) {
     string(c, &mut lawful_slip(d).written(44).unwrap())
 }
 
-/// A slip with one to three bytes changed, some of them only in a bit, cut off or gone on, or any bytes at all.
 fn read_damaged(_: &Oracle, d: &mut Dice, i: u64, c: &mut Check) {
     let mut bytes = lawful_slip(d).written(44).unwrap();
-    for _ in 0..d.below(4) {
-        let at = d.below(44) as usize;
-        bytes[at] = if d.below(2) == 0 { bytes[at] ^ 1 << d.below(8) } else { d.word() as u8 };
-    }
-    if i % 4 == 0 {
-        let any = d.below(200) as usize;
-        let length = d.of(&[0, 1, 43, 45, 88, any]);
-        bytes.resize_with(length, || d.word() as u8);
-    }
-    if i % 16 == 1 {
-        bytes.fill_with(|| d.word() as u8);
-    }
+    damage_slip(d, i, &mut bytes);
     string(c, &mut bytes)
 }
 

@@ -1,5 +1,5 @@
-//! The proved receiving core of the ion HF modem, the sending halves of its interleavers and its burst slips, in Rust's own manner: slices,
-//! enums and `Result` over `include/ion.h`.
+//! The proved receiving core of the ion HF modem, the sending halves of its interleavers, its burst slips and the segment board, in Rust's
+//! own manner: slices, enums and `Result` over `include/ion.h`.
 //!
 //! Build the library first: `rt staticlib ion` at the repository's root. Every function takes any input and ends. One that
 //! answers `Err` has written nothing. No function keeps anything between calls, so any threads may call at once.
@@ -49,16 +49,17 @@ mod sys {
             slip: *const u8, slip_len: usize, mode: *mut u8, kind: *mut u8, word: *mut u64, outcome: *mut u8, pass: *mut u8, score: *mut f32,
             start: *mut u64, segment: *mut u16,
         ) -> u32;
-        pub fn ion_version_104() -> u32;
+        pub fn ion_put_slip(board: *mut u8, board_len: usize, count: *mut u32, slip: *const u8, slip_len: usize) -> u32;
+        pub fn ion_version_105() -> u32;
     }
 }
 
 /// The number of the last change request that is in; 0 is the base. The library has it in a symbol's name, so a library of another
 /// version does not link.
-pub const VERSION: u32 = 104;
+pub const VERSION: u32 = 105;
 
 #[used]
-static VERSION_LINKED: unsafe extern "C" fn() -> u32 = sys::ion_version_104;
+static VERSION_LINKED: unsafe extern "C" fn() -> u32 = sys::ion_version_105;
 
 /// Terms of a symbol: five rows of 52.
 pub const TERMS: usize = 260;
@@ -70,6 +71,10 @@ pub const STATES: usize = 16_384;
 pub const DECISIONS: usize = STATES / 64;
 /// Bytes of a slip.
 pub const SLIP: usize = 44;
+/// Bytes of a segment board: a place of [`SLIP`] bytes for each of its [`SEGMENTS`].
+pub const BOARD: usize = SEGMENTS * SLIP;
+/// The most segments that a board lists.
+pub const SEGMENTS: usize = 512;
 /// The most bits that are sent, or that soft values are worked out for.
 pub const BITS: u32 = 10_240;
 /// The most code symbols that are sent.
@@ -163,7 +168,7 @@ pub enum Form {
 }
 
 /// Why nothing was done: the papers' causes. Of several causes, the one whose number comes first in the order 1, 12, 2, 3, 4, 5, 11, 6,
-/// 7, 8, 9, 10, 13.
+/// 7, 8, 9, 10, 13, 14.
 #[derive(Clone, Copy, Debug, PartialEq, Eq, Hash)]
 #[non_exhaustive]
 pub enum Refusal {
@@ -191,17 +196,19 @@ pub enum Refusal {
     Value,
     /// A layout that is not from 1 to 8.
     Layout,
-    /// Bytes that are no slip, or values that no slip holds.
+    /// Bytes that are no slip, values that no slip holds, or a board that is broken.
     Slip,
+    /// A slip for an unlisted segment, where [`SEGMENTS`] are listed.
+    Full,
     /// A number that these bindings have no name for. No function of this version answers one.
     Unnamed(u32),
 }
 
 impl Refusal {
     /// By their numbers, from 1 on.
-    const NAMED: [Refusal; 13] = [
+    const NAMED: [Refusal; 14] = [
         Refusal::Name, Refusal::Count, Refusal::Window, Refusal::Length, Refusal::Bit, Refusal::Term, Refusal::Blanked, Refusal::Sample,
-        Refusal::Tracker, Refusal::Blocks, Refusal::Value, Refusal::Layout, Refusal::Slip,
+        Refusal::Tracker, Refusal::Blocks, Refusal::Value, Refusal::Layout, Refusal::Slip, Refusal::Full,
     ];
 
     /// The number in the papers.
@@ -211,6 +218,7 @@ impl Refusal {
     /// assert_eq!(ion_proved::Refusal::Value.number(), 11);
     /// assert_eq!(ion_proved::Refusal::Layout.number(), 12);
     /// assert_eq!(ion_proved::Refusal::Slip.number(), 13);
+    /// assert_eq!(ion_proved::Refusal::Full.number(), 14);
     /// ```
     pub fn number(self) -> u32 {
         match self {
@@ -242,7 +250,8 @@ impl fmt::Display for Refusal {
             Refusal::Blocks => "over 64 blocks, or a block out of range or falling",
             Refusal::Value => "a symbol value above 31",
             Refusal::Layout => "a layout not from 1 to 8",
-            Refusal::Slip => "bytes that are no slip, or values that no slip holds",
+            Refusal::Slip => "bytes that are no slip, values that no slip holds, or a board that is broken",
+            Refusal::Full => "a slip for an unlisted segment where 512 are listed",
             Refusal::Unnamed(_) => "a number without a name here",
         };
         write!(f, "refused by number {}: {why}", self.number())
@@ -491,6 +500,182 @@ impl Slip {
         let mode = if mode == 0 { Mode::R0 } else { Mode::R1 };
         let kind = [Kind::HeaderOnly, Kind::Data, Kind::Cue][kind as usize];
         Ok(Slip { mode, kind, header: Header { word, outcome: Outcome::named(outcome, pass, score) }, start, segment })
+    }
+}
+
+/// Puts a slip on a lent board: [`BOARD`] bytes, places of [`SLIP`] bytes, of which the first `count` are listed, segments rising; places past
+/// the count are not read, and of them only the one that a new segment fills is written. [`Board`] says by which rules, and owns one.
+///
+/// [`Refusal::Length`] where the board has another length; [`Refusal::Slip`] where the count is above [`SEGMENTS`], a listed place is no slip,
+/// their segments do not rise, or the slip is none, whatever its length; [`Refusal::Full`] where its segment is not listed and
+/// [`SEGMENTS`] are.
+///
+/// ```
+/// use ion_proved::{BOARD, Header, Kind, Mode, Outcome, Refusal, SLIP, Slip, put_slip};
+/// // whatever the places hold: none is listed
+/// let (mut board, mut count) = (vec![0xA5; BOARD], 0);
+/// let header = Header { word: 0, outcome: Outcome::Open { score: 0.0 } };
+/// let slip = Slip { mode: Mode::R0, kind: Kind::Cue, header, start: 0, segment: 7 }.to_bytes()?;
+/// put_slip(&mut board, &mut count, &slip)?;
+/// assert_eq!((&board[..SLIP], count), (&slip[..], 1));
+/// assert!(board[SLIP..].iter().all(|&b| b == 0xA5));
+/// // refused, and as they were
+/// assert_eq!(put_slip(&mut board[..BOARD - 1], &mut count, &slip), Err(Refusal::Length));
+/// count = 2;
+/// assert_eq!(put_slip(&mut board, &mut count, &slip), Err(Refusal::Slip));
+/// assert_eq!(count, 2);
+/// # Ok::<(), Refusal>(())
+/// ```
+pub fn put_slip(board: &mut [u8], count: &mut u32, slip: &[u8]) -> Result<(), Refusal> {
+    // SAFETY: both slices are told with their own lengths; they and the count cannot overlap.
+    Refusal::told(unsafe { sys::ion_put_slip(board.as_mut_ptr(), board.len(), count, slip.as_ptr(), slip.len()) })
+}
+
+/// What the planner's screen shows: one slip a segment, segments rising, at most [`SEGMENTS`].
+///
+/// A slip for a listed segment takes the listed one's place where its start is later, or where both starts are equal and its reading is
+/// better: Sure is better than Kept, and Kept than Open, whatever the pass and the score. Else the listed one remains. A slip for another
+/// segment is listed in order.
+///
+/// Proved: after any series of puts, those refused set aside, each segment shows the slip that these rules leave of its own slips in order of
+/// arrival. A segment once listed stays listed, so of one segment's slips all are accepted or none: the first 512 different segments that
+/// come are listed.
+///
+/// ```
+/// use ion_proved::{Board, Header, Kind, Mode, Outcome, Refusal, SEGMENTS, Slip};
+/// let slip = |segment, start, outcome| Slip { mode: Mode::R0, kind: Kind::Cue, header: Header { word: 5, outcome }, start, segment };
+/// let (sure, kept) = (Outcome::Sure { score: 1.0, pass: 3 }, Outcome::Kept { score: 9.0 });
+/// let mut board = Board::new();
+/// board.put_slip(&slip(7, 48_000, kept))?;
+/// board.put_slip(&slip(3, 50_000, sure))?;
+/// assert_eq!(board.slips().map(|s| s.segment).collect::<Vec<_>>(), [3, 7]);
+///
+/// // a better reading of the same start replaces, a worse one does not; a later start does, whatever its reading
+/// board.put_slip(&slip(7, 48_000, sure))?;
+/// board.put_slip(&slip(7, 48_000, kept))?;
+/// assert_eq!(board.get(7), Some(slip(7, 48_000, sure)));
+/// board.put_slip(&slip(7, 48_001, kept))?;
+/// board.put_slip(&slip(7, 48_000, sure))?;
+/// assert_eq!(board.get(7), Some(slip(7, 48_001, kept)));
+/// assert_eq!((board.len(), board.get(4)), (2, None));
+///
+/// // refused, and as it was
+/// let was = board.clone();
+/// assert_eq!(board.put(&slip(4, 0, sure).to_bytes()?[..43]), Err(Refusal::Slip));
+/// assert_eq!(board, was);
+///
+/// // listed segments are judged on a full board too
+/// for segment in 0..SEGMENTS as u16 {
+///     board.put_slip(&slip(segment, 0, kept))?;
+/// }
+/// assert_eq!(board.put_slip(&slip(512, 60_000, sure)), Err(Refusal::Full));
+/// board.put_slip(&slip(511, 60_000, sure))?;
+/// assert_eq!((board.len(), board.get(511)), (512, Some(slip(511, 60_000, sure))));
+/// # Ok::<(), Refusal>(())
+/// ```
+#[derive(Clone)]
+pub struct Board {
+    bytes: Vec<u8>,
+    count: u32,
+}
+
+impl Board {
+    /// No segment listed.
+    pub fn new() -> Board {
+        Board { bytes: vec![0; BOARD], count: 0 }
+    }
+
+    /// A board as it was lent or kept: [`BOARD`] bytes and how many places are listed. Refused as [`put_slip`] refuses it, by the library's own
+    /// judgement: on a copy the first listed slip is put again, which changes nothing on a good board.
+    ///
+    /// ```
+    /// use ion_proved::{BOARD, Board, Header, Kind, Mode, Outcome, Refusal, SLIP, Slip};
+    /// let header = Header { word: 0, outcome: Outcome::Open { score: 0.0 } };
+    /// let slip = |segment| Slip { mode: Mode::R0, kind: Kind::Cue, header, start: 0, segment };
+    /// let mut board = Board::new();
+    /// board.put_slip(&slip(7))?;
+    /// board.put_slip(&slip(3))?;
+    /// let bytes = board.as_bytes();
+    /// assert_eq!(Board::from_bytes(bytes, 2), Ok(board.clone()));
+    /// assert_eq!(Board::from_bytes(bytes, 1).map(|b| b.slips().collect()), Ok(vec![slip(3)]));
+    /// assert_eq!(Board::from_bytes(bytes, 0), Ok(Board::new()));
+    /// // zeros are no slip, 513 are too many, and segments rise
+    /// assert_eq!(Board::from_bytes(bytes, 3), Err(Refusal::Slip));
+    /// assert_eq!(Board::from_bytes(bytes, 513), Err(Refusal::Slip));
+    /// let mut falling = bytes.to_vec();
+    /// falling[..2 * SLIP].rotate_left(SLIP);
+    /// assert_eq!(Board::from_bytes(&falling, 2), Err(Refusal::Slip));
+    /// assert_eq!(Board::from_bytes(&bytes[..BOARD - 1], 0), Err(Refusal::Length));
+    /// # Ok::<(), Refusal>(())
+    /// ```
+    pub fn from_bytes(bytes: &[u8], count: u32) -> Result<Board, Refusal> {
+        let mut board = Board { bytes: bytes.to_vec(), count };
+        // where none is listed there is none to put again: a board of the right length refuses the string of no bytes alone
+        let first = if count == 0 { &[] } else { bytes.get(..SLIP).unwrap_or_default() };
+        match board.put(first) {
+            Err(Refusal::Slip) if count == 0 => Ok(board),
+            told => told.map(|()| board),
+        }
+    }
+
+    /// Puts a slip by its bytes. From [`Board::new`] it is refused only for the slip itself ([`Refusal::Slip`]) or, where its segment is not
+    /// listed, on a full board ([`Refusal::Full`]), as is proved.
+    pub fn put(&mut self, slip: &[u8]) -> Result<(), Refusal> {
+        put_slip(&mut self.bytes, &mut self.count, slip)
+    }
+
+    /// Puts a slip; [`Refusal::Slip`] where it cannot be written ([`Slip::to_bytes`]), and as [`Board::put`].
+    pub fn put_slip(&mut self, slip: &Slip) -> Result<(), Refusal> {
+        self.put(&slip.to_bytes()?)
+    }
+
+    /// The segments listed.
+    pub fn len(&self) -> usize {
+        self.count as usize
+    }
+
+    pub fn is_empty(&self) -> bool {
+        self.count == 0
+    }
+
+    /// The slips listed, segments rising.
+    pub fn slips(&self) -> impl Iterator<Item = Slip> + '_ {
+        self.listed().chunks_exact(SLIP).map(|place| Slip::from_bytes(place).expect("a listed place is a slip"))
+    }
+
+    /// The slip listed for a segment.
+    pub fn get(&self, segment: u16) -> Option<Slip> {
+        self.slips().find(|slip| slip.segment == segment)
+    }
+
+    /// All [`BOARD`] bytes, as [`put_slip`] and the C function take them; the first [`Board::len`] places are listed.
+    pub fn as_bytes(&self) -> &[u8] {
+        &self.bytes
+    }
+
+    fn listed(&self) -> &[u8] {
+        &self.bytes[..self.len() * SLIP]
+    }
+}
+
+impl Default for Board {
+    fn default() -> Board {
+        Board::new()
+    }
+}
+
+/// Two boards are the same where they list the same slips, whatever lies past them.
+impl PartialEq for Board {
+    fn eq(&self, other: &Board) -> bool {
+        self.listed() == other.listed()
+    }
+}
+
+impl Eq for Board {}
+
+impl fmt::Debug for Board {
+    fn fmt(&self, f: &mut fmt::Formatter<'_>) -> fmt::Result {
+        f.debug_list().entries(self.slips()).finish()
     }
 }
 

@@ -1,0 +1,42 @@
+//! The planner's segment board: slips of a few segments are put on it in order of arrival, and it shows one a segment; then it is filled,
+//! kept as bytes and taken up again. From the repository's root:
+//!   rt staticlib ion
+//!   cargo run --offline --manifest-path bindings/rust/Cargo.toml --target-dir target/rust --example board
+use ion_proved::{Board, Header, Kind, Mode, Outcome, Refusal, SEGMENTS, Slip};
+
+const SURE: Outcome = Outcome::Sure { score: 1.0, pass: 1 };
+const KEPT: Outcome = Outcome::Kept { score: 1.0 };
+const OPEN: Outcome = Outcome::Open { score: 1.0 };
+
+fn slip(segment: u16, start: u64, outcome: Outcome) -> Slip {
+    Slip { mode: Mode::R0, kind: Kind::Cue, header: Header { word: 0, outcome }, start, segment }
+}
+
+fn main() -> Result<(), Refusal> {
+    let mut board = Board::new();
+    // segment 9 comes later once, then earlier; segment 4 is read better, then worse, at one start; segment 12 comes but once
+    let first = [slip(9, 48_000, SURE), slip(4, 52_000, OPEN), slip(9, 56_000, KEPT), slip(12, 50_000, OPEN)];
+    let then = [slip(9, 48_000, SURE), slip(4, 52_000, KEPT), slip(4, 52_000, OPEN)];
+    first.iter().chain(&then).try_for_each(|s| board.put_slip(s))?;
+    for slip in board.slips() {
+        println!("segment {} start {} {:?}", slip.segment, slip.start, slip.header.outcome);
+    }
+    assert!(board.slips().eq([slip(4, 52_000, KEPT), slip(9, 56_000, KEPT), slip(12, 50_000, OPEN)]));
+
+    // a listed segment is judged on a full board as on any other; one more is refused, and changes nothing
+    for segment in 0..SEGMENTS as u16 {
+        board.put_slip(&slip(segment, 0, OPEN))?;
+    }
+    let was = board.clone();
+    let refused = board.put_slip(&slip(512, 60_000, SURE)).unwrap_err();
+    assert_eq!((refused.number(), &board), (14, &was));
+    board.put_slip(&slip(511, 60_000, SURE))?;
+    println!("{} segments listed, a further one is {refused}", board.len());
+
+    // kept as bytes and a count; a board with two places exchanged is none
+    let mut bytes = board.as_bytes().to_vec();
+    assert_eq!(Board::from_bytes(&bytes, 512).as_ref(), Ok(&board));
+    bytes[..88].rotate_left(44);
+    assert_eq!(Board::from_bytes(&bytes, 512), Err(Refusal::Slip));
+    Ok(())
+}
