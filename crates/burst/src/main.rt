@@ -155,7 +155,7 @@ fn show_burst(
     let out = with_slip(block, out, asked, head, answer);
     let out = with_soft_bits(block, out, asked, soft);
     let out = with_metrics(block, out, asked, metrics);
-    output::finish(block, out);
+    output::finish(block, out, b"burst: standard output");
 }
 
 // The soft values of a burst whose header is answered, and then all that is to be shown.

@@ -4,8 +4,8 @@ use crate::decimal::Decimal;
 use burst_text::output::Waiting;
 use burst_text::output::finish;
 use burst_text::output::nothing;
+use burst_text::output::tell;
 use burst_text::output::text;
-use libc::STDERR_FILENO;
 
 pub struct Asked {
     pub help: bool,
@@ -156,21 +156,13 @@ fn usage(block: &mut [u8], out: Waiting) -> Waiting {
 
 fn show_help(block: &mut [u8]) {
     let out = usage(block, nothing());
-    finish(block, out);
+    finish(block, out, b"burst: standard output");
 }
 
 // Inside: the usage on standard output.
 pub fn help() {
     let mut block = io::buffer();
     show_help(&mut block);
-}
-
-// What waits, on standard error.
-fn tell(block: &[u8], out: Waiting) {
-    let n = out.bytes;
-    if n <= block.len() {
-        io::write_all(STDERR_FILENO, &block[..n]);
-    }
 }
 
 // The word on standard error, and the usage.

@@ -1,8 +1,8 @@
 // The lines that the program `burst` prints of a burst (docs/BURST-FORMAT.md).
 use burst_text::figures::float;
 use burst_text::output::Waiting;
+use burst_text::output::counted;
 use burst_text::output::hex;
-use burst_text::output::number;
 use burst_text::output::text;
 
 // Inside: the header's word, 12 digits for the 48 bits of a HeaderOnly or Cue header, 16 for the 64 of a Data header.
@@ -12,15 +12,10 @@ pub fn header(block: &mut [u8], out: Waiting, kind: u8, word: u64) -> Waiting {
     text(block, out, b"\n")
 }
 
-// A number after its label.
-fn counted(block: &mut [u8], out: Waiting, label: &[u8], n: u64) -> Waiting {
-    let out = text(block, out, label);
-    number(block, out, n)
-}
-
 fn scored(block: &mut [u8], out: Waiting, x: f32) -> Waiting {
     let out = text(block, out, b"score ");
-    float(block, out, x)
+    let out = float(block, out, x);
+    text(block, out, b"\n")
 }
 
 // Inside: the outcome Sure, the pass and the score.
@@ -79,7 +74,8 @@ pub fn slip(block: &mut [u8], out: Waiting, bytes: &[u8]) -> Waiting {
 fn soft_bit(block: &mut [u8], out: Waiting, i: usize, x: f32) -> Waiting {
     let out = counted(block, out, b"soft ", i as u64);
     let out = text(block, out, b": ");
-    float(block, out, x)
+    let out = float(block, out, x);
+    text(block, out, b"\n")
 }
 
 // Inside: a line for each soft bit.
@@ -96,7 +92,8 @@ fn metric(block: &mut [u8], out: Waiting, i: usize, x: f32) -> Waiting {
     let out = counted(block, out, b"metric ", (i / 32) as u64);
     let out = counted(block, out, b" ", (i % 32) as u64);
     let out = text(block, out, b": ");
-    float(block, out, x)
+    let out = float(block, out, x);
+    text(block, out, b"\n")
 }
 
 // Inside: a line for each metric.

@@ -16,7 +16,7 @@ fn thousandths(block: &mut [u8], out: Waiting, n: u64) -> Waiting {
     three_digits(block, out, n % 1000)
 }
 
-// A number of 0 and above, rounded to three places.
+// A number of 0 and above, rounded to three places where its thousandths are below 2^64: a slip's score may be any finite f32.
 fn places(block: &mut [u8], out: Waiting, x: f64) -> Waiting {
     let rounded = x * 1000.0 + 0.5;
     if rounded > -1.0 {
@@ -24,7 +24,7 @@ fn places(block: &mut [u8], out: Waiting, x: f64) -> Waiting {
             return thousandths(block, out, std::num::truncating_f64_to_u64(rounded));
         }
     }
-    out
+    text(block, out, b"1.8e16 or beyond")
 }
 
 fn wide(x: u32) -> u64 {
@@ -48,11 +48,11 @@ fn signed(block: &mut [u8], out: Waiting, is_negative: bool, x: f32) -> Waiting 
 }
 
 // Inside: three places after the point, then the pattern, by which nothing is lost. A minus stands before a negative zero
-// too. No NaN comes here: an answer's score, its metrics and its soft bits are finite.
+// too. No NaN comes here: the score of an answer or a slip, metrics and soft bits are finite.
 pub fn float(block: &mut [u8], out: Waiting, x: f32) -> Waiting {
     let pattern = pattern_of(x);
     let out = signed(block, out, pattern >= 0x8000_0000, x);
     let out = text(block, out, b" (");
     let out = hex(block, out, pattern, 8);
-    text(block, out, b")\n")
+    text(block, out, b")")
 }

@@ -1,4 +1,5 @@
 // Text for standard output by way of a lent block, which goes out when it is full: whole blocks, and not a write a line.
+use libc::STDERR_FILENO;
 use libc::STDOUT_FILENO;
 
 // How many bytes of the block wait to go out, and whether a write failed.
@@ -15,20 +16,12 @@ pub fn nothing() -> Waiting {
     }
 }
 
-fn tell_failure() {
-    os::fail(b"burst: standard output");
-}
-
-// Whether a write has failed once these bytes are out. The first that fails is told, and none is tried after it.
+// Whether a write has failed once these bytes are out. None is tried after the first that fails.
 fn fails(before: bool, s: &[u8]) -> bool {
     if before {
         return true;
     }
-    if io::write_all(STDOUT_FILENO, s) {
-        return false;
-    }
-    tell_failure();
-    true
+    !io::write_all(STDOUT_FILENO, s)
 }
 
 fn byte(block: &mut [u8], out: Waiting, b: u8) -> Waiting {
@@ -63,6 +56,12 @@ pub fn number(block: &mut [u8], out: Waiting, n: u64) -> Waiting {
     text(block, out, &digits[..k])
 }
 
+// Inside: a number after its label.
+pub fn counted(block: &mut [u8], out: Waiting, label: &[u8], n: u64) -> Waiting {
+    let out = text(block, out, label);
+    number(block, out, n)
+}
+
 // Inside: a number in hexadecimal digits, at least `width` of them.
 pub fn hex(block: &mut [u8], out: Waiting, n: u64, width: usize) -> Waiting {
     let mut digits = [0u8; 16];
@@ -70,10 +69,21 @@ pub fn hex(block: &mut [u8], out: Waiting, n: u64, width: usize) -> Waiting {
     text(block, out, &digits[..k])
 }
 
-// Inside: what still waits goes out.
-pub fn finish(block: &[u8], out: Waiting) {
+// Inside: what still waits goes out. Where a write has failed, why it did is told after `what`: no call is made after it, so
+// errno is still the write's.
+pub fn finish(block: &[u8], out: Waiting, what: &[u8]) {
     let n = out.bytes;
     if n <= block.len() {
-        fails(out.failed, &block[..n]);
+        if fails(out.failed, &block[..n]) {
+            os::fail(what);
+        }
+    }
+}
+
+// Inside: what waits, on standard error. The block is to hold it all: a full one goes to standard output.
+pub fn tell(block: &[u8], out: Waiting) {
+    let n = out.bytes;
+    if n <= block.len() {
+        io::write_all(STDERR_FILENO, &block[..n]);
     }
 }

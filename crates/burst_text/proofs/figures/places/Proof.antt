@@ -19,11 +19,17 @@ same-length c = search needs
 returns : tie.Need-returns
 returns c = search needs
 
+slice-aggregate-text : tie.Need-slice-aggregate-text
+slice-aggregate-text c = search needs
+
+text-requires : tie.Need-text-requires
+text-requires c κs = search needs
+
+same-length-2 : tie.Need-same-length-2
+same-length-2 c = search needs
+
 returns-2 : tie.Need-returns-2
 returns-2 c = search needs
-
-returns-3 : tie.Need-returns-3
-returns-3 c = search needs
 
 pub places-spec : {M : Type 1} → statement M
 places-spec =
@@ -33,5 +39,7 @@ places-spec =
     thousandths-requires
     same-length
     returns
-    returns-2
-    returns-3)
+    slice-aggregate-text
+    text-requires
+    same-length-2
+    returns-2)

@@ -12,11 +12,19 @@ slice-aggregate-fails c = sym (length-take-le _ _ (omega arith))
 fails-requires : tie.Need-fails-requires
 fails-requires c κs = search needs
 
+fail-requires : tie.Need-fail-requires
+fail-requires c κs = search needs
+
 returns : tie.Need-returns
 returns c = search needs
 
 returns-2 : tie.Need-returns-2
 returns-2 c = search needs
 
+returns-3 : tie.Need-returns-3
+returns-3 c = search needs
+
 pub finish-spec : {M : Type 1} → statement M
-finish-spec = tie.close (tie.spec slice-aggregate-fails fails-requires returns returns-2)
+finish-spec =
+    tie.close
+    (tie.spec slice-aggregate-fails fails-requires fail-requires returns returns-2 returns-3)

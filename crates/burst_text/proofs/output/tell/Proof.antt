@@ -1,10 +1,10 @@
--- `burst_input::arguments::tell` is safe: what is lent is the first part of the block. Assumes nothing.
+-- `burst_text::output::tell` is safe: what is lent is the first part of the block. Assumes nothing.
 use mathlib.Core.Path.{sym}
 use native.Mathlib.Omega.{arith}
 use lib.Seq.{length-take-le}
 use borrow.Author.Needs.{needs}
-use Rattle.burst_input.proofs.arguments.tell.Statement.{statement}
-use Rattle.burst_input.proofs.arguments.tell.Tie as tie
+use Rattle.burst_text.proofs.output.tell.Statement.{statement}
+use Rattle.burst_text.proofs.output.tell.Tie as tie
 
 slice-aggregate-write-all : tie.Need-slice-aggregate-write-all
 slice-aggregate-write-all c = sym (length-take-le _ _ (omega arith))
