@@ -1,5 +1,6 @@
 // Writes recorded answers of the Rust to standard output, 17 bytes a record: for crates/vectors/stdin, or with the word
-// `series` fits and series of the tracker, and of slips put on a board by the model of board.rs, for crates/series/stdin.
+// `series` fits and series of the tracker for crates/series/stdin, or with the word `boards` series of slips put on a board, by the model of board.rs, for
+// crates/board_series/stdin.
 use ion::phy_mfsk::hook::{Fmt, Kind, MfskMode, Terms, Tracker, air, code, decode_terms, decode_terms_told, blanked_frac, fit_drift, soft_terms, windows};
 use board::Board;
 use slip::Slip;
@@ -327,7 +328,7 @@ fn drifts(put: Put) {
     }
 }
 
-// A series of slips put on a board, for crates/series. `what` is 200. `asked` has a seed in bits 0 to 31, how many puts (n) in bits 32 to 47,
+// A series of slips put on a board, for crates/board_series. `what` is 200. `asked` has a seed in bits 0 to 31, how many puts (n) in bits 32 to 47,
 // and a style in bits 48 and 49: an even one has few segments, an odd one many; 2 and 3 have damage. All numbers are u64; mix64 is the
 // papers'.
 //
@@ -421,10 +422,8 @@ fn main() {
         out.extend(answer.to_le_bytes());
     };
     match std::env::args().nth(1).as_deref() {
-        Some("series") => {
-            drifts(&mut put);
-            boards(&mut put);
-        }
+        Some("series") => drifts(&mut put),
+        Some("boards") => boards(&mut put),
         _ => vectors(&mut put),
     }
     std::io::stdout().write_all(&out).unwrap();
