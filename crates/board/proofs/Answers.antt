@@ -44,8 +44,8 @@ module _ (rule : Rule) (b s : List ℕ) (count : ℕ) where
 
 -- ---- a slip on a board, neither of them broken
 
-module _ (rule : Rule) (b s : List ℕ) (count p g : ℕ) (size : length b ≡ 44 * 512) (good : goodBoard b count ≡ true) (slip : isSlip s ≡ true)
-    (its : g ≡ segmentOf s) (at : p ≡ before g (places count b)) where
+module _ (rule : Rule) (b s : List ℕ) (count p g : ℕ) (size : length b ≡ 44 * 512) (good : goodBoard b count ≡ true)
+    (slip : isSlip s ≡ true) (its : g ≡ segmentOf s) (at : p ≡ before g (places count b)) where
   there : p ≡ before (segmentOf s) (places count b)
   there = at ∙ ap (λ (h : ℕ). before h (places count b)) its
 

@@ -17,7 +17,8 @@ use Rattle.slip.specs.Slips.{isSlip, taken}
 use Rattle.board.specs.Places.{segmentOf, rising, isListed, before, shown}
 use Rattle.board.specs.Rules.{Rule, judge}
 use Rattle.board.specs.Series.{left}
-use Rattle.board.proofs.Rising.{First, first, from-first, shown-here, shown-further, none-below, isSome, listed-shown, listed-here, listed-further, unlisted-below}
+use Rattle.board.proofs.Rising.{First, first, from-first, rising-from, shown-here, shown-further, none-below, isSome}
+use Rattle.board.proofs.Rising.{listed-shown, listed-here, listed-further, unlisted-below}
 use Rattle.board.proofs.Rising.{Lies, after, same, ahead, lies, before-after, before-first}
 
 unfoldable pub putIn : Rule → List ℕ → List (List ℕ) → List (List ℕ)
@@ -25,6 +26,11 @@ putIn rule s [] = s ∷ []
 putIn rule s (t ∷ ts) =
     choose (ltb (segmentOf t) (segmentOf s)) (t ∷ putIn rule s ts)
     (choose (eqb (segmentOf t) (segmentOf s)) (judge rule t s ∷ ts) (s ∷ t ∷ ts))
+
+-- what becomes of a list at place p, where the slip's segment is listed there or not: judged, or put before those from p on
+abbrev pub putAt : Rule → List ℕ → List (List ℕ) → ℕ → Bool → List (List ℕ)
+putAt rule s ts p is-listed =
+    choose is-listed (choose (rule (taken (getD ts p [])) (taken s)) (set ts p s) ts) (take p ts ++ s ∷ drop p ts)
 
 module _ (rule : Rule) (s : List ℕ) where
   -- what becomes of a list with a first slip
@@ -66,7 +72,8 @@ module _ (rule : Rule) (s : List ℕ) where
           from-first k s ts (record { slip = g; least = l; rest = subst (λ (n : ℕ). rising (suc n) ts ≡ true) q (f .rest) })
       one-left false q = e
 
-      by : Lies (segmentOf s) t → (segmentOf t < segmentOf s → rising (suc (segmentOf t)) (putIn rule s ts) ≡ true) → rising k (putIn rule s (t ∷ ts)) ≡ true
+      by : Lies (segmentOf s) t → (segmentOf t < segmentOf s → rising (suc (segmentOf t)) (putIn rule s ts) ≡ true)
+          → rising k (putIn rule s (t ∷ ts)) ≡ true
       by (after m) more =
           ap (rising k) (put-after t ts m)
           ∙ from-first k t (putIn rule s ts)
@@ -75,11 +82,12 @@ module _ (rule : Rule) (s : List ℕ) where
       by (ahead m) more =
           ap (rising k) (put-ahead t ts m)
           ∙ from-first k s (t ∷ ts)
-          (record { slip = g; least = l; rest = from-first (suc (segmentOf s)) t ts (record { slip = f .slip; least = m; rest = f .rest }) })
+          (record { slip = g; least = l; rest = rising-from (suc (segmentOf s)) k t ts e m })
 
   -- ---- only its own segment shows another slip
 
-  pub shown-own : (k : ℕ) (ts : List (List ℕ)) → rising k ts ≡ true → shown (segmentOf s) (putIn rule s ts) ≡ left rule (shown (segmentOf s) ts) (s ∷ [])
+  pub shown-own : (k : ℕ) (ts : List (List ℕ)) → rising k ts ≡ true
+      → shown (segmentOf s) (putIn rule s ts) ≡ left rule (shown (segmentOf s) ts) (s ∷ [])
   unfolding putIn shown left
   shown-own k [] e = shown-here (segmentOf s) s [] refl
   shown-own k (t ∷ ts) e = by (lies (segmentOf s) t) (shown-own (suc (segmentOf t)) ts (first k t ts e .rest))
@@ -99,10 +107,11 @@ module _ (rule : Rule) (s : List ℕ) where
           ∙ shown-here (segmentOf s) (judge rule t s) ts (judged t q)
           ∙ ap (λ (o : Option (List ℕ)). left rule o (s ∷ [])) (sym (shown-here (segmentOf s) t ts q))
       by (ahead m) rest =
-          let higher = from-first (suc (segmentOf s)) t ts (record { slip = f .slip; least = m; rest = f .rest }) in
+          let higher = rising-from (suc (segmentOf s)) k t ts e m in
           ap (shown (segmentOf s)) (put-ahead t ts m)
           ∙ shown-here (segmentOf s) s (t ∷ ts) refl
-          ∙ ap (λ (o : Option (List ℕ)). left rule o (s ∷ [])) (sym (none-below (segmentOf s) (suc (segmentOf s)) (t ∷ ts) (le-refl (suc (segmentOf s))) higher))
+          ∙ ap (λ (o : Option (List ℕ)). left rule o (s ∷ []))
+          (sym (none-below (segmentOf s) (suc (segmentOf s)) (t ∷ ts) (le-refl (suc (segmentOf s))) higher))
 
   pub shown-other : (h : ℕ) (ts : List (List ℕ)) → (segmentOf s ≡ h → ⊥) → shown h (putIn rule s ts) ≡ shown h ts
   unfolding putIn shown
@@ -137,17 +146,11 @@ module _ (rule : Rule) (s : List ℕ) where
   -- ---- and where it stands
 
   pub put-at : (k : ℕ) (ts : List (List ℕ)) → rising k ts ≡ true
-      → choose (isListed (segmentOf s) ts)
-      (choose (rule (taken (getD ts (before (segmentOf s) ts) [])) (taken s)) (set ts (before (segmentOf s) ts) s) ts)
-      (take (before (segmentOf s) ts) ts ++ s ∷ drop (before (segmentOf s) ts) ts)
-      ≡ putIn rule s ts
+      → putAt rule s ts (before (segmentOf s) ts) (isListed (segmentOf s) ts) ≡ putIn rule s ts
   unfolding before isListed someOf putIn
   put-at k [] e = refl
   put-at k (t ∷ ts) e = by (lies (segmentOf s) t) (put-at (suc (segmentOf t)) ts (first k t ts e .rest))
     where
-      f : First k t ts
-      f = first k t ts e
-
       -- the first stays where the place is behind it
       behind : (u r : Bool) (a b c : List (List ℕ)) → choose u (choose r (t ∷ a) (t ∷ b)) (t ∷ c) ≡ t ∷ choose u (choose r a b) c
       behind true true a b c = refl
@@ -158,26 +161,20 @@ module _ (rule : Rule) (s : List ℕ) where
       one-left true = refl
       one-left false = refl
 
-      by : Lies (segmentOf s) t
-          → choose (isListed (segmentOf s) ts)
-          (choose (rule (taken (getD ts (before (segmentOf s) ts) [])) (taken s)) (set ts (before (segmentOf s) ts) s) ts)
-          (take (before (segmentOf s) ts) ts ++ s ∷ drop (before (segmentOf s) ts) ts)
-          ≡ putIn rule s ts
-          → choose (isListed (segmentOf s) (t ∷ ts))
-          (choose (rule (taken (getD (t ∷ ts) (before (segmentOf s) (t ∷ ts)) [])) (taken s)) (set (t ∷ ts) (before (segmentOf s) (t ∷ ts)) s) (t ∷ ts))
-          (take (before (segmentOf s) (t ∷ ts)) (t ∷ ts) ++ s ∷ drop (before (segmentOf s) (t ∷ ts)) (t ∷ ts))
-          ≡ putIn rule s (t ∷ ts)
+      by : Lies (segmentOf s) t → putAt rule s ts (before (segmentOf s) ts) (isListed (segmentOf s) ts) ≡ putIn rule s ts
+          → putAt rule s (t ∷ ts) (before (segmentOf s) (t ∷ ts)) (isListed (segmentOf s) (t ∷ ts)) ≡ putIn rule s (t ∷ ts)
       by (after m) rest =
-          ap₂ (λ (p : ℕ) (u : Bool). choose u (choose (rule (taken (getD (t ∷ ts) p [])) (taken s)) (set (t ∷ ts) p s) (t ∷ ts)) (take p (t ∷ ts) ++ s ∷ drop p (t ∷ ts))) (before-after (segmentOf s) t ts m) (listed-further (segmentOf s) t ts (λ q. absurd (omega (arith, q))))
-          ∙ behind (isListed (segmentOf s) ts) (rule (taken (getD ts (before (segmentOf s) ts) [])) (taken s)) (set ts (before (segmentOf s) ts) s) ts
-          (take (before (segmentOf s) ts) ts ++ s ∷ drop (before (segmentOf s) ts) ts)
+          let p = before (segmentOf s) ts in
+          ap₂ (putAt rule s (t ∷ ts)) (before-after (segmentOf s) t ts m)
+          (listed-further (segmentOf s) t ts (λ q. absurd (omega (arith, q))))
+          ∙ behind (isListed (segmentOf s) ts) (rule (taken (getD ts p [])) (taken s)) (set ts p s) ts (take p ts ++ s ∷ drop p ts)
           ∙ ap (λ (l : List (List ℕ)). t ∷ l) rest
           ∙ sym (put-after t ts m)
       by (same q) rest =
-          ap₂ (λ (p : ℕ) (u : Bool). choose u (choose (rule (taken (getD (t ∷ ts) p [])) (taken s)) (set (t ∷ ts) p s) (t ∷ ts)) (take p (t ∷ ts) ++ s ∷ drop p (t ∷ ts))) (before-first (segmentOf s) t ts (omega (arith, q))) (listed-here (segmentOf s) t ts q)
+          ap₂ (putAt rule s (t ∷ ts)) (before-first (segmentOf s) t ts (omega (arith, q))) (listed-here (segmentOf s) t ts q)
           ∙ one-left (rule (taken t) (taken s))
           ∙ sym (put-same t ts q)
       by (ahead m) rest =
-          ap₂ (λ (p : ℕ) (u : Bool). choose u (choose (rule (taken (getD (t ∷ ts) p [])) (taken s)) (set (t ∷ ts) p s) (t ∷ ts)) (take p (t ∷ ts) ++ s ∷ drop p (t ∷ ts))) (before-first (segmentOf s) t ts (omega arith))
-          (unlisted-below (segmentOf s) (suc (segmentOf s)) (t ∷ ts) (le-refl (suc (segmentOf s))) (from-first (suc (segmentOf s)) t ts (record { slip = f .slip; least = m; rest = f .rest })))
-          ∙ sym (put-ahead t ts m)
+          let higher = rising-from (suc (segmentOf s)) k t ts e m in
+          let none = unlisted-below (segmentOf s) (suc (segmentOf s)) (t ∷ ts) (le-refl (suc (segmentOf s))) higher in
+          ap₂ (putAt rule s (t ∷ ts)) (before-first (segmentOf s) t ts (omega arith)) none ∙ sym (put-ahead t ts m)

@@ -45,7 +45,8 @@ module _ (rule : Rule) (s : List ℕ) (count : ℕ) (few : count ≤ 512) where
   leaves (refused k) ss = ss
   leaves (accepted a) ss = putIn rule s ss
 
-  left : (b : List ℕ) → length b ≡ 44 * 512 → places (countAfter b count s) (boardAfter rule b count s) ≡ leaves (putting b count s) (places count b)
+  left : (b : List ℕ) → length b ≡ 44 * 512
+      → places (countAfter b count s) (boardAfter rule b count s) ≡ leaves (putting b count s) (places count b)
   unfolding leaves
   left b size = by (putting b count s) refl
     where
@@ -58,7 +59,8 @@ module _ (rule : Rule) (s : List ℕ) (count : ℕ) (few : count ≤ 512) where
 
   -- ---- not read: boards that differ only past the count get the same answer and list the same slips
 
-  module _ (b c : List ℕ) (size : length b ≡ 44 * 512) (same-size : length c ≡ 44 * 512) (same : take (44 * count) b ≡ take (44 * count) c) where
+  module _ (b c : List ℕ) (size : length b ≡ 44 * 512) (same-size : length c ≡ 44 * 512)
+      (same : take (44 * count) b ≡ take (44 * count) c) where
     same-places : places count b ≡ places count c
     same-places = sym (of-take count b (omega (arith, size))) ∙ ap (places count) same ∙ of-take count c (omega (arith, same-size))
 
@@ -74,7 +76,8 @@ module _ (rule : Rule) (s : List ℕ) (count : ℕ) (few : count ≤ 512) where
     pub same-count : countAfter b count s ≡ countAfter c count s
     unfolding countOn
     same-count =
-        ap₂ (λ (o : Outcome Unit) (ss : List (List ℕ)). afterwards o count (choose (isListed (segmentOf s) ss) count (suc count))) same-answer same-places
+        ap₂ (λ (o : Outcome Unit) (ss : List (List ℕ)). afterwards o count (choose (isListed (segmentOf s) ss) count (suc count)))
+        same-answer same-places
 
     pub same-slips : places (countAfter b count s) (boardAfter rule b count s) ≡ places (countAfter c count s) (boardAfter rule c count s)
     same-slips = left b size ∙ ap₂ leaves same-answer same-places ∙ sym (left c same-size)
@@ -85,7 +88,8 @@ module _ (rule : Rule) (s : List ℕ) (count : ℕ) (few : count ≤ 512) where
     past-replaced : (p : ℕ) → p < count → length s ≡ 44 → drop (44 * count) (replaced b p s) ≡ drop (44 * count) b
     past-replaced p l slip =
         let front = take (44 * p) b ++ s in
-        let long : length front ≡ 44 * suc p = length-append (take (44 * p) b) s ∙ omega (arith, length-take-le (44 * p) b (omega (arith, size)), slip) in
+        let long : length front ≡ 44 * suc p =
+        length-append (take (44 * p) b) s ∙ omega (arith, length-take-le (44 * p) b (omega (arith, size)), slip) in
         let m = 44 * (count - suc p) in
         let cut : 44 * count ≡ length front + m = omega (arith, long) in
         let back : 44 * suc p + m ≡ 44 * count = omega arith in
@@ -94,7 +98,8 @@ module _ (rule : Rule) (s : List ℕ) (count : ℕ) (few : count ≤ 512) where
         ∙ drop-drop m (44 * suc p) b
         ∙ ap (λ (n : ℕ). drop n b) back
 
-    past-inserted : (p : ℕ) → p ≤ count → count < 512 → length s ≡ 44 → drop (44 * suc count) (inserted b count p s) ≡ drop (44 * suc count) b
+    past-inserted : (p : ℕ) → p ≤ count → count < 512 → length s ≡ 44
+        → drop (44 * suc count) (inserted b count p s) ≡ drop (44 * suc count) b
     past-inserted p l room slip =
         let moved = take (44 * (count - p)) (drop (44 * p) b) in
         let front = take (44 * p) b ++ (s ++ moved) in
@@ -103,29 +108,33 @@ module _ (rule : Rule) (s : List ℕ) (count : ℕ) (few : count ≤ 512) where
         let long : length front ≡ 44 * suc count =
         length-append (take (44 * p) b) (s ++ moved)
         ∙ omega (arith, length-append s moved, length-take-le (44 * p) b (omega (arith, size)), size-moved, slip) in
-        ap (drop (44 * suc count)) (ap (λ (l : List ℕ). take (44 * p) b ++ l) (sym (append-assoc s moved rest)) ∙ sym (append-assoc (take (44 * p) b) (s ++ moved) rest))
+        ap (drop (44 * suc count))
+        (ap (λ (l : List ℕ). take (44 * p) b ++ l) (sym (append-assoc s moved rest)) ∙ sym (append-assoc (take (44 * p) b) (s ++ moved) rest))
         ∙ drop-at front rest (44 * suc count) long
+
+    -- the slip's place, and the bytes where its segment is listed or not
+    abbrev p : ℕ
+    p = before (segmentOf s) (places count b)
+
+    abbrev bytes : Bool → List ℕ
+    bytes is-listed = choose is-listed (choose (rule (taken (placeAt b p)) (taken s)) (replaced b p s) b) (inserted b count p s)
 
     pub unwritten : drop (44 * countAfter b count s) (boardAfter rule b count s) ≡ drop (44 * countAfter b count s) b
     unfolding putOn countOn
     unwritten = by (putting b count s) refl
       where
-        judged : (r : Bool) → before (segmentOf s) (places count b) < count → length s ≡ 44
-            → drop (44 * count) (choose r (replaced b (before (segmentOf s) (places count b)) s) b) ≡ drop (44 * count) b
-        judged true l slip = past-replaced (before (segmentOf s) (places count b)) l slip
+        judged : (r : Bool) → p < count → length s ≡ 44 → drop (44 * count) (choose r (replaced b p s) b) ≡ drop (44 * count) b
+        judged true l slip = past-replaced p l slip
         judged false l slip = refl
 
-        put : (t : Bool) → isListed (segmentOf s) (places count b) ≡ t → (t ≡ false → count < 512) → rising 0 (places count b) ≡ true → length s ≡ 44
-            → drop (44 * choose t count (suc count))
-            (choose t
-            (choose (rule (taken (placeAt b (before (segmentOf s) (places count b)))) (taken s)) (replaced b (before (segmentOf s) (places count b)) s) b)
-            (inserted b count (before (segmentOf s) (places count b)) s))
-            ≡ drop (44 * choose t count (suc count)) b
-        put true e room r slip = judged (rule (taken (placeAt b (before (segmentOf s) (places count b)))) (taken s)) (place-listed (segmentOf s) count b r e) slip
-        put false e room r slip = past-inserted (before (segmentOf s) (places count b)) (place-within (segmentOf s) count b) (room refl) slip
+        put : (t : Bool) → isListed (segmentOf s) (places count b) ≡ t → (t ≡ false → count < 512) → rising 0 (places count b) ≡ true
+            → length s ≡ 44 → drop (44 * choose t count (suc count)) (bytes t) ≡ drop (44 * choose t count (suc count)) b
+        put true e room r slip = judged (rule (taken (placeAt b p)) (taken s)) (place-listed (segmentOf s) count b r e) slip
+        put false e room r slip = past-inserted p (place-within (segmentOf s) count b) (room refl) slip
 
         by : (o : Outcome Unit) → putting b count s ≡ o
-            → drop (44 * afterwards o count (countOn b count s)) (afterwards o b (putOn rule b count s)) ≡ drop (44 * afterwards o count (countOn b count s)) b
+            → drop (44 * afterwards o count (countOn b count s)) (afterwards o b (putOn rule b count s))
+            ≡ drop (44 * afterwards o count (countOn b count s)) b
         by (refused k) e = refl
         by (accepted a) e =
             let t = taken-in b e in

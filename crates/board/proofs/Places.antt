@@ -65,7 +65,8 @@ of-take n b l =
 -- n places and m behind them
 joined : (n m : ℕ) (x y : List ℕ) → length x ≡ 44 * n → places (n + m) (x ++ y) ≡ places n x ++ places m y
 joined n m x y e =
-    both n m (x ++ y) ∙ ap₂ (λ (l : List (List ℕ)) (c : List ℕ). l ++ places m c) (own-bytes n x y (omega (arith, e))) (drop-at x y (44 * n) e)
+    both n m (x ++ y)
+    ∙ ap₂ (λ (l : List (List ℕ)) (c : List ℕ). l ++ places m c) (own-bytes n x y (omega (arith, e))) (drop-at x y (44 * n) e)
 
 -- a slip's bytes are one place
 one : (s : List ℕ) → length s ≡ 44 → places 1 s ≡ s ∷ []

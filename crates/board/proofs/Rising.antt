@@ -33,14 +33,20 @@ pub from-first : (k : ℕ) (s : List ℕ) (ss : List (List ℕ)) → First k s s
 unfolding rising
 from-first k s ss f = rw (f .slip, le-leb k (segmentOf s) (f .least), f .rest) refl
 
+-- they rise from any number on that the first one's segment is not below
+pub rising-from : (j k : ℕ) (s : List ℕ) (ss : List (List ℕ)) → rising k (s ∷ ss) ≡ true → j ≤ segmentOf s → rising j (s ∷ ss) ≡ true
+rising-from j k s ss e l = let f = first k s ss e in from-first j s ss (record { slip = f .slip; least = l; rest = f .rest })
+
 -- by the least segment that may come after the first, which is 0 where the first is no slip or of a segment below
-pub past-first : (k : ℕ) (s : List ℕ) (ss : List (List ℕ)) (n : ℕ) → n ≡ choose (isSlip s && leb k (segmentOf s)) (suc (segmentOf s)) 0
+pub past-first : (k : ℕ) (s : List ℕ) (ss : List (List ℕ)) (n : ℕ)
+    → n ≡ choose (isSlip s && leb k (segmentOf s)) (suc (segmentOf s)) 0
     → (n ≡ 0 → rising k (s ∷ ss) ≡ false) × ((n ≡ 0 → ⊥) → rising n ss ≡ rising k (s ∷ ss))
 unfolding rising
 past-first k s ss n e = by (isSlip s) (leb k (segmentOf s)) e
   where
     by : (t u : Bool) → n ≡ choose (t && u) (suc (segmentOf s)) 0
-        → (n ≡ 0 → (t && (u && rising (suc (segmentOf s)) ss)) ≡ false) × ((n ≡ 0 → ⊥) → rising n ss ≡ (t && (u && rising (suc (segmentOf s)) ss)))
+        → (n ≡ 0 → (t && (u && rising (suc (segmentOf s)) ss)) ≡ false)
+        × ((n ≡ 0 → ⊥) → rising n ss ≡ (t && (u && rising (suc (segmentOf s)) ss)))
     by true true e = ((λ z. absurd (omega (arith, e, z))), (λ z. ap (λ (m : ℕ). rising m ss) e))
     by true false e = ((λ z. refl), (λ z. absurd (z e)))
     by false u e = ((λ z. refl), (λ z. absurd (z e)))
@@ -61,7 +67,8 @@ unfolding shown
 none-below g k [] l e = refl
 none-below g k (s ∷ ss) l e =
     let f = first k s ss e in
-    shown-further g s ss (λ q. absurd (omega (arith, q, f .least))) ∙ none-below g (suc (segmentOf s)) ss (omega (arith, f .least)) (f .rest)
+    shown-further g s ss (λ q. absurd (omega (arith, q, f .least)))
+    ∙ none-below g (suc (segmentOf s)) ss (omega (arith, f .least)) (f .rest)
 
 -- a segment is listed where one is shown
 abbrev pub isSome : Option (List ℕ) → Bool
@@ -125,22 +132,29 @@ before-le g (s ∷ ss) = by (lies g s) (before-le g ss)
     by (ahead l) rest = omega (arith, before-first g s ss (omega arith))
 
 -- a segment is listed exactly where it stands at its place
-pub at-place : (g k : ℕ) (ss : List (List ℕ)) → rising k ss ≡ true
-    → isListed g ss ≡ (ltb (before g ss) (length ss) && eqb (segmentOf (getD ss (before g ss) [])) g)
+abbrev pub standsAt : ℕ → List (List ℕ) → ℕ → Bool
+standsAt g ss p = ltb p (length ss) && eqb (segmentOf (getD ss p [])) g
+
+pub at-place : (g k : ℕ) (ss : List (List ℕ)) → rising k ss ≡ true → isListed g ss ≡ standsAt g ss (before g ss)
 unfolding isListed someOf before
 at-place g k [] e = refl
 at-place g k (s ∷ ss) e = by (lies g s) (at-place g (suc (segmentOf s)) ss (first k s ss e .rest))
   where
-    by : Lies g s → isListed g ss ≡ (ltb (before g ss) (length ss) && eqb (segmentOf (getD ss (before g ss) [])) g) → isListed g (s ∷ ss) ≡ (ltb (before g (s ∷ ss)) (suc (length ss)) && eqb (segmentOf (getD (s ∷ ss) (before g (s ∷ ss)) [])) g)
+    there : ltb 0 (suc (length ss)) ≡ true
+    there = lt-ltb 0 (suc (length ss)) (omega arith)
+
+    by : Lies g s → isListed g ss ≡ standsAt g ss (before g ss) → isListed g (s ∷ ss) ≡ standsAt g (s ∷ ss) (before g (s ∷ ss))
     by (after l) rest =
         listed-further g s ss (λ q. absurd (omega (arith, q)))
         ∙ rest
         ∙ ap (λ (t : Bool). t && eqb (segmentOf (getD ss (before g ss) [])) g) (sym (leb·suc-suc (suc (before g ss)) (length ss)))
-        ∙ ap (λ (p : ℕ). ltb p (suc (length ss)) && eqb (segmentOf (getD (s ∷ ss) p [])) g) (sym (before-after g s ss l))
+        ∙ ap (standsAt g (s ∷ ss)) (sym (before-after g s ss l))
     by (same q) rest =
-        listed-here g s ss q ∙ sym (ap₂ _&&_ (lt-ltb 0 (suc (length ss)) (omega arith)) (eq-eqb (segmentOf s) g q)) ∙ ap (λ (p : ℕ). ltb p (suc (length ss)) && eqb (segmentOf (getD (s ∷ ss) p [])) g) (sym (before-first g s ss (omega (arith, q))))
+        listed-here g s ss q
+        ∙ sym (ap₂ _&&_ there (eq-eqb (segmentOf s) g q))
+        ∙ ap (standsAt g (s ∷ ss)) (sym (before-first g s ss (omega (arith, q))))
     by (ahead l) rest =
         listed-further g s ss (λ q. absurd (omega (arith, q)))
         ∙ unlisted-below g (suc (segmentOf s)) ss (omega arith) (first k s ss e .rest)
-        ∙ sym (ap₂ _&&_ (lt-ltb 0 (suc (length ss)) (omega arith)) (ne-eqb (segmentOf s) g (λ q. absurd (omega (arith, q)))))
-        ∙ ap (λ (p : ℕ). ltb p (suc (length ss)) && eqb (segmentOf (getD (s ∷ ss) p [])) g) (sym (before-first g s ss (omega arith)))
+        ∙ sym (ap₂ _&&_ there (ne-eqb (segmentOf s) g (λ q. absurd (omega (arith, q)))))
+        ∙ ap (standsAt g (s ∷ ss)) (sym (before-first g s ss (omega arith)))

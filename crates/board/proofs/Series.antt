@@ -16,7 +16,8 @@ use Rattle.util.proofs.Choose.{chosen, not-chosen, by-case}
 use Rattle.slip.specs.Slips.{isSlip}
 use Rattle.board.specs.Places.{places, segmentOf, rising, isListed, shown}
 use Rattle.board.specs.Rules.{Rule}
-use Rattle.board.specs.Series.{Board, Good, listed, answerTo, put, ran, answers, those, isAccepted, admitted, isOf, left, has, firsts, answerBy, empty, After}
+use Rattle.board.specs.Series.{Board, Good, listed, answerTo, put, ran, answers, those, isAccepted, admitted, isOf, left}
+use Rattle.board.specs.Series.{has, firsts, answerBy, empty, After}
 use Rattle.board.proofs.Listing.{putIn, shown-own, shown-other, listed-own, listed-other}
 use Rattle.board.proofs.Turn.{rises, good-board, Done, Turn, broken, full, again, new, turn}
 
@@ -38,47 +39,61 @@ good-ran rule b (x ∷ xs) g = good-ran rule (put rule b x) xs (good-put rule b 
 -- ---- what is shown
 
 -- a series goes on from what its first slip leaves
-left-more : (rule : Rule) (o : Option (List ℕ)) (x : List ℕ) (xs : List (List ℕ)) → left rule (left rule o (x ∷ [])) xs ≡ left rule o (x ∷ xs)
+left-more : (rule : Rule) (o : Option (List ℕ)) (x : List ℕ) (xs : List (List ℕ))
+    → left rule (left rule o (x ∷ [])) xs ≡ left rule o (x ∷ xs)
 unfolding left
 left-more rule none x xs = refl
 left-more rule (some l) x xs = refl
+
+-- one string more before those that are let in later, of which a refused one is set aside
+module _ (rule : Rule) (h : ℕ) (b : Board) (x : List ℕ) (g : Good b) (later : List (List ℕ)) where
+  -- those of segment h
+  abbrev own : List (List ℕ)
+  own = those (isOf h) later
+
+  abbrev with-it : Outcome Unit → List (List ℕ)
+  with-it o = choose (isAccepted o) (x ∷ later) later
+
+  -- its own segment's slip is judged; another's does not matter
+  judged : (u : Bool) → eqb (segmentOf x) h ≡ u
+      → left rule (shown h (putIn rule x (listed b))) own ≡ left rule (shown h (listed b)) (choose u (x ∷ own) own)
+  judged true q =
+      let its = shown-own rule x 0 (listed b) (rises (b .bytes) (b .count) (g .good)) in
+      let same : segmentOf x ≡ h = eqb-true (segmentOf x) h q in
+      ap (λ (o : Option (List ℕ)). left rule o own)
+      (subst (λ (n : ℕ). shown n (putIn rule x (listed b)) ≡ left rule (shown n (listed b)) (x ∷ [])) same its)
+      ∙ left-more rule (shown h (listed b)) x own
+  judged false q = ap (λ (o : Option (List ℕ)). left rule o own) (shown-other rule x h (listed b) (eqb-false (segmentOf x) h q))
+
+  one-more : left rule (shown h (listed (put rule b x))) own ≡ left rule (shown h (listed b)) (those (isOf h) (with-it (answerTo b x)))
+  unfolding those
+  one-more = by (turn rule b x g)
+    where
+      aside : (k : ℕ) → answerTo b x ≡ refused k → put rule b x ≡ b
+          → left rule (shown h (listed (put rule b x))) own ≡ left rule (shown h (listed b)) (those (isOf h) (with-it (answerTo b x)))
+      aside k a same =
+          ap₂ (λ (c : Board) (o : Outcome Unit). left rule (shown h (listed c)) (those (isOf h) (with-it o))) same (sym a)
+
+      let-in : Done rule b x
+          → left rule (shown h (listed (put rule b x))) own ≡ left rule (shown h (listed b)) (those (isOf h) (with-it (answerTo b x)))
+      let-in d =
+          ap (λ (ss : List (List ℕ)). left rule (shown h ss) own) (d .slips)
+          ∙ judged (eqb (segmentOf x) h) refl
+          ∙ ap (λ (o : Outcome Unit). left rule (shown h (listed b)) (those (isOf h) (with-it o))) (sym (d .answer))
+
+      by : Turn rule b x
+          → left rule (shown h (listed (put rule b x))) own ≡ left rule (shown h (listed b)) (those (isOf h) (with-it (answerTo b x)))
+      by (broken e a same) = aside 13 a same
+      by (full e f c a same) = aside 14 a same
+      by (again e f d) = let-in d
+      by (new e f c d) = let-in d
 
 pub shows : (rule : Rule) (h : ℕ) (b : Board) (xs : List (List ℕ)) → Good b
     → shown h (listed (ran rule b xs)) ≡ left rule (shown h (listed b)) (those (isOf h) (admitted rule b xs))
 unfolding ran admitted those left
 shows rule h b [] g = refl
-shows rule h b (x ∷ xs) g = shows rule h (put rule b x) xs (good-put rule b x g) ∙ by (turn rule b x g)
-  where
-    aside : (k : ℕ) → answerTo b x ≡ refused k → put rule b x ≡ b → left rule (shown h (listed (put rule b x))) (those (isOf h) (admitted rule (put rule b x) xs))
-        ≡ left rule (shown h (listed b)) (those (isOf h) (choose (isAccepted (answerTo b x)) (x ∷ admitted rule (put rule b x) xs) (admitted rule (put rule b x) xs)))
-    aside k a same =
-        ap₂ (λ (c : Board) (l : List (List ℕ)). left rule (shown h (listed c)) (those (isOf h) l)) same
-        (sym (ap (λ (o : Outcome Unit). choose (isAccepted o) (x ∷ (admitted rule (put rule b x) xs)) (admitted rule (put rule b x) xs)) a))
-
-    -- its own segment's slip is judged; another's does not matter
-    judged : (u : Bool) → eqb (segmentOf x) h ≡ u
-        → left rule (shown h (putIn rule x (listed b))) (those (isOf h) (admitted rule (put rule b x) xs))
-        ≡ left rule (shown h (listed b)) (choose u (x ∷ those (isOf h) (admitted rule (put rule b x) xs)) (those (isOf h) (admitted rule (put rule b x) xs)))
-    judged true q =
-        let own = subst (λ (n : ℕ). shown n (putIn rule x (listed b)) ≡ left rule (shown n (listed b)) (x ∷ [])) (eqb-true (segmentOf x) h q)
-        (shown-own rule x 0 (listed b) (rises (b .bytes) (b .count) (g .good))) in
-        ap (λ (o : Option (List ℕ)). left rule o (those (isOf h) (admitted rule (put rule b x) xs))) own ∙ left-more rule (shown h (listed b)) x (those (isOf h) (admitted rule (put rule b x) xs))
-    judged false q =
-        ap (λ (o : Option (List ℕ)). left rule o (those (isOf h) (admitted rule (put rule b x) xs))) (shown-other rule x h (listed b) (eqb-false (segmentOf x) h q))
-
-    taken-in : Done rule b x → left rule (shown h (listed (put rule b x))) (those (isOf h) (admitted rule (put rule b x) xs))
-        ≡ left rule (shown h (listed b)) (those (isOf h) (choose (isAccepted (answerTo b x)) (x ∷ admitted rule (put rule b x) xs) (admitted rule (put rule b x) xs)))
-    taken-in d =
-        ap (λ (l : List (List ℕ)). left rule (shown h l) (those (isOf h) (admitted rule (put rule b x) xs))) (d .slips)
-        ∙ judged (eqb (segmentOf x) h) refl
-        ∙ ap (λ (l : List (List ℕ)). left rule (shown h (listed b)) (those (isOf h) l)) (sym (ap (λ (o : Outcome Unit). choose (isAccepted o) (x ∷ (admitted rule (put rule b x) xs)) (admitted rule (put rule b x) xs)) (d .answer)))
-
-    by : Turn rule b x → left rule (shown h (listed (put rule b x))) (those (isOf h) (admitted rule (put rule b x) xs))
-        ≡ left rule (shown h (listed b)) (those (isOf h) (choose (isAccepted (answerTo b x)) (x ∷ admitted rule (put rule b x) xs) (admitted rule (put rule b x) xs)))
-    by (broken e a same) = aside 13 a same
-    by (full e f c a same) = aside 14 a same
-    by (again e f d) = taken-in d
-    by (new e f c d) = taken-in d
+shows rule h b (x ∷ xs) g =
+    shows rule h (put rule b x) xs (good-put rule b x g) ∙ one-more rule h b x g (admitted rule (put rule b x) xs)
 
 -- ---- which segments are listed
 
@@ -91,7 +106,8 @@ kept : (n h : ℕ) (seen : List ℕ) (xs : List (List ℕ)) → has h seen ≡ t
 unfolding firsts has someOf
 kept n h seen [] e = e
 kept n h seen (x ∷ xs) e =
-    by-case (λ (l : List ℕ). has h l ≡ true) (isSlip x && (not (has (segmentOf x) seen) && ltb (length seen) n)) (firsts n (segmentOf x ∷ seen) xs) (firsts n seen xs)
+    by-case (λ (l : List ℕ). has h l ≡ true) (isSlip x && (not (has (segmentOf x) seen) && ltb (length seen) n))
+    (firsts n (segmentOf x ∷ seen) xs) (firsts n seen xs)
     (λ p. kept n h (segmentOf x ∷ seen) xs (ap (λ (t : Bool). eqb (segmentOf x) h || t) e ∙ or-true (eqb (segmentOf x) h)))
     (λ p. kept n h seen xs e)
 
@@ -117,11 +133,14 @@ record Answered (rule : Rule) (b : Board) (seen : List ℕ) (xs : List (List ℕ
   are : (h : ℕ) → isListed h (listed (ran rule b xs)) ≡ has h (firsts 512 seen xs)
 
 -- a segment is listed after a put as before, but that its own is
-listed-put : (rule : Rule) (b : Board) (x : List ℕ) (h : ℕ) → Good b → Done rule b x → isListed h (listed (put rule b x)) ≡ (eqb (segmentOf x) h || isListed h (listed b))
+listed-put : (rule : Rule) (b : Board) (x : List ℕ) (h : ℕ) → Good b → Done rule b x
+    → isListed h (listed (put rule b x)) ≡ (eqb (segmentOf x) h || isListed h (listed b))
 listed-put rule b x h g d = ap (isListed h) (d .slips) ∙ by (eqb (segmentOf x) h) refl
   where
     by : (u : Bool) → eqb (segmentOf x) h ≡ u → isListed h (putIn rule x (listed b)) ≡ (u || isListed h (listed b))
-    by true q = subst (λ (n : ℕ). isListed n (putIn rule x (listed b)) ≡ true) (eqb-true (segmentOf x) h q) (listed-own rule x 0 (listed b) (rises (b .bytes) (b .count) (g .good)))
+    by true q =
+        subst (λ (n : ℕ). isListed n (putIn rule x (listed b)) ≡ true) (eqb-true (segmentOf x) h q)
+        (listed-own rule x 0 (listed b) (rises (b .bytes) (b .count) (g .good)))
     by false q = listed-other rule x h (listed b) (eqb-false (segmentOf x) h q)
 
 answered : (rule : Rule) (b : Board) (seen : List ℕ) (xs : List (List ℕ)) → Good b → Seen b seen → Answered rule b seen xs
@@ -143,7 +162,8 @@ answered rule b seen (x ∷ xs) g s = by (turn rule b x g) (λ more. answered ru
     no-more : isSlip x && (not (has (segmentOf x) seen) && ltb (length seen) 512) ≡ false → firsts 512 seen (x ∷ xs) ≡ firsts 512 seen xs
     no-more e = not-chosen (firsts 512 (segmentOf x ∷ seen) xs) (firsts 512 seen xs) e
 
-    one-firsts : (isSlip x && (not (has (segmentOf x) seen) && ltb (length seen) 512)) ≡ true → firsts 512 seen (x ∷ xs) ≡ firsts 512 (segmentOf x ∷ seen) xs
+    one-firsts : (isSlip x && (not (has (segmentOf x) seen) && ltb (length seen) 512)) ≡ true
+        → firsts 512 seen (x ∷ xs) ≡ firsts 512 (segmentOf x ∷ seen) xs
     one-firsts e = chosen (firsts 512 (segmentOf x ∷ seen) xs) (firsts 512 seen xs) e
 
     by : Turn rule b x → ((more : List ℕ) → Seen (put rule b x) more → Answered rule (put rule b x) more xs) → Answered rule b seen (x ∷ xs)
@@ -151,7 +171,8 @@ answered rule b seen (x ∷ xs) g s = by (turn rule b x g) (λ more. answered ru
         step seen (no-more (rw e refl)) (a ∙ sym (rw e refl)) (later seen (subst (λ (c : Board). Seen c seen) (sym same) s))
     by (full e f c a same) later =
         let many : length seen ≡ 512 = s .many ∙ c in
-        let unseen : has (segmentOf x) (firsts 512 seen xs) ≡ false = ap (has (segmentOf x)) (stays 512 seen xs (omega (arith, many))) ∙ s .same (segmentOf x) ∙ f in
+        let unseen : has (segmentOf x) (firsts 512 seen xs) ≡ false =
+        ap (has (segmentOf x)) (stays 512 seen xs (omega (arith, many))) ∙ s .same (segmentOf x) ∙ f in
         step seen
         (no-more (rw (e, s .same (segmentOf x) ∙ f, le-ltb (length seen) 512 (omega (arith, many))) refl))
         (a ∙ sym (rw (e, unseen) refl))
@@ -162,9 +183,13 @@ answered rule b seen (x ∷ xs) g s = by (turn rule b x g) (λ more. answered ru
         (no-more (rw (e, there) refl))
         (d .answer ∙ sym (rw (e, kept 512 (segmentOf x) seen xs there) refl))
         (later seen
-        (record { same = λ h. s .same h ∙ sym (listed-put rule b x h g d ∙ within h (eqb (segmentOf x) h) refl f); many = s .many ∙ sym (d .count ∙ chosen _ _ f) }))
+        (record {
+          same = λ h. s .same h ∙ sym (listed-put rule b x h g d ∙ within h (eqb (segmentOf x) h) refl f);
+          many = s .many ∙ sym (d .count ∙ chosen _ _ f);
+        }))
       where
-        within : (h : ℕ) (u : Bool) → eqb (segmentOf x) h ≡ u → isListed (segmentOf x) (listed b) ≡ true → (u || isListed h (listed b)) ≡ isListed h (listed b)
+        within : (h : ℕ) (u : Bool) → eqb (segmentOf x) h ≡ u → isListed (segmentOf x) (listed b) ≡ true
+            → (u || isListed h (listed b)) ≡ isListed h (listed b)
         within h true q f = sym (subst (λ (n : ℕ). isListed n (listed b) ≡ true) (eqb-true (segmentOf x) h q) f)
         within h false q f = refl
     by (new e f c d) later =
@@ -174,13 +199,13 @@ answered rule b seen (x ∷ xs) g s = by (turn rule b x g) (λ more. answered ru
         (one-firsts (rw (e, s .same (segmentOf x) ∙ f, lt-ltb (length seen) 512 (omega (arith, s .many))) refl))
         (d .answer ∙ sym (rw (e, kept 512 (segmentOf x) more xs itself) refl))
         (later more
-        (record { same = λ h. one-more h ∙ sym (listed-put rule b x h g d); many = ap suc (s .many) ∙ sym (d .count ∙ not-chosen _ _ f) }))
+        (record { same = λ h. one-seen h ∙ sym (listed-put rule b x h g d); many = ap suc (s .many) ∙ sym (d .count ∙ not-chosen _ _ f) }))
       where
         own : has (segmentOf x) (segmentOf x ∷ seen) ≡ true
         own = ap (λ (t : Bool). t || has (segmentOf x) seen) (eq-eqb (segmentOf x) (segmentOf x) refl)
 
-        one-more : (h : ℕ) → has h (segmentOf x ∷ seen) ≡ (eqb (segmentOf x) h || isListed h (listed b))
-        one-more h = ap (λ (t : Bool). eqb (segmentOf x) h || t) (s .same h)
+        one-seen : (h : ℕ) → has h (segmentOf x ∷ seen) ≡ (eqb (segmentOf x) h || isListed h (listed b))
+        one-seen h = ap (λ (t : Bool). eqb (segmentOf x) h || t) (s .same h)
 
 -- ---- of a listed segment all slips count
 
@@ -229,8 +254,29 @@ empty-seen : (bytes : List ℕ) → Seen (empty bytes) []
 unfolding has isListed someOf places
 empty-seen bytes = record { same = λ h. refl; many = refl }
 
+module _ (rule : Rule) (bytes : List ℕ) (xs : List (List ℕ)) (g : Good (empty bytes)) where
+  -- those that are accepted where these segments are listed
+  abbrev accepted-by : List ℕ → List (List ℕ)
+  accepted-by segments = those (λ x. isAccepted (answerBy segments x)) xs
+
+  from-none : (h : ℕ) → shown h (listed (ran rule (empty bytes) xs)) ≡ left rule none (those (isOf h) (admitted rule (empty bytes) xs))
+  unfolding places shown
+  from-none h = shows rule h (empty bytes) xs g
+
+  of-all : (segments : List ℕ) (h : ℕ) (t : Bool) → has h segments ≡ t
+      → left rule none (those (isOf h) (accepted-by segments)) ≡ choose t (left rule none (those (λ x. isSlip x && isOf h x) xs)) none
+  unfolding left
+  of-all segments h true q =
+      ap (left rule none)
+      (those-both (isOf h) (λ x. isAccepted (answerBy segments x)) xs
+      ∙ ap (λ (p : List ℕ → Bool). those p xs) (λ i x. of-listed segments h q x i))
+  of-all segments h false q =
+      ap (left rule none)
+      (those-both (isOf h) (λ x. isAccepted (answerBy segments x)) xs
+      ∙ ap (λ (p : List ℕ → Bool). those p xs) (λ i x. of-other segments h q x i)
+      ∙ those-none xs)
+
 pub from-empty : (rule : Rule) (bytes : List ℕ) (xs : List (List ℕ)) → length bytes ≡ 44 * 512 → After rule bytes xs
-unfolding places shown left
 from-empty rule bytes xs e =
     let g = empty-good bytes e in
     let a = answered rule (empty bytes) [] xs g (empty-seen bytes) in
@@ -238,25 +284,9 @@ from-empty rule bytes xs e =
       good = good-ran rule (empty bytes) xs g;
       listed-are = a .are;
       answered = a .by-firsts;
-      shows = own g;
-      shows-all = λ h. own g h ∙ ap (λ (l : List (List ℕ)). left rule none (those (isOf h) l)) (a .let-in) ∙ all h (has h (firsts 512 [] xs)) refl;
+      shows = from-none rule bytes xs g;
+      shows-all = λ h.
+          from-none rule bytes xs g h
+          ∙ ap (λ (l : List (List ℕ)). left rule none (those (isOf h) l)) (a .let-in)
+          ∙ of-all rule bytes xs g (firsts 512 [] xs) h (has h (firsts 512 [] xs)) refl;
     }
-  where
-    own : Good (empty bytes) → (h : ℕ) → shown h (listed (ran rule (empty bytes) xs)) ≡ left rule none (those (isOf h) (admitted rule (empty bytes) xs))
-    own g h = shows rule h (empty bytes) xs g ∙ ap (λ (o : Option (List ℕ)). left rule o (those (isOf h) (admitted rule (empty bytes) xs))) none-shown
-      where
-        none-shown : shown h (listed (empty bytes)) ≡ none
-        none-shown = refl
-
-    all : (h : ℕ) (t : Bool) → has h (firsts 512 [] xs) ≡ t
-        → left rule none (those (isOf h) (those (λ x. isAccepted (answerBy (firsts 512 [] xs) x)) xs))
-        ≡ choose t (left rule none (those (λ x. isSlip x && isOf h x) xs)) none
-    all h true q =
-        ap (left rule none) (those-both (isOf h) (λ x. isAccepted (answerBy (firsts 512 [] xs) x)) xs ∙ ap (λ (p : List ℕ → Bool). those p xs) (λ i x. of-listed (firsts 512 [] xs) h q x i))
-    all h false q =
-        ap (left rule none)
-        (those-both (isOf h) (λ x. isAccepted (answerBy (firsts 512 [] xs) x)) xs ∙ ap (λ (p : List ℕ → Bool). those p xs) (λ i x. of-other (firsts 512 [] xs) h q x i) ∙ those-none xs)
-        ∙ nothing
-      where
-        nothing : left rule none [] ≡ none
-        nothing = refl

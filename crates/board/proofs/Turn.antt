@@ -2,12 +2,12 @@
 -- `putIn` makes of them. Under any rule. Assumes nothing.
 use Prim.Native.Nat.{ℕ, suc, _*_, _≤_, _<_, zero-le}
 use mathlib.Core.Bool.{Bool, true, false, true≢false, and-eq-true-iff}
-use mathlib.Core.List.{List, [], _∷_, _++_}
+use mathlib.Core.List.{List, []}
 use mathlib.Core.Path.{_≡_, refl, sym, ap, subst, _∙_}
 use native.Mathlib.Omega.{arith}
 use borrow.Author.Tests.{leb-true, le-leb, ltb-true, eqb-true, eqb-false, eq-eqb}
 use lib.Dec.{eqb, leb, ltb}
-use lib.ListN.{length, getD, set, take, drop}
+use lib.ListN.{length, getD, set}
 use Rattle.util.specs.Choose.{choose}
 use Rattle.util.specs.Refusal.{Outcome, refused, accepted, afterwards}
 use Rattle.util.proofs.Choose.{chosen, not-chosen}
@@ -18,7 +18,7 @@ use Rattle.board.specs.Rules.{Rule}
 use Rattle.board.specs.Putting.{replaced, inserted, putOn, countOn}
 use Rattle.board.specs.Series.{Board, Good, listed, answerTo, put}
 use Rattle.board.proofs.Rising.{before-le, at-place}
-use Rattle.board.proofs.Listing.{putIn, rising-put, put-at}
+use Rattle.board.proofs.Listing.{putIn, putAt, rising-put, put-at}
 use Rattle.board.proofs.Places.{length-places, nth-place, places-replaced, places-inserted, length-replaced, length-inserted}
 
 -- what is known of a board that is not refused
@@ -37,18 +37,25 @@ good-board bytes count l e = rw (le-leb count 512 l, e) refl
 -- ---- its bytes
 
 -- a listed segment's place is one of the listed
-pub place-listed : (g count : ℕ) (b : List ℕ) → rising 0 (places count b) ≡ true → isListed g (places count b) ≡ true → before g (places count b) < count
+pub place-listed : (g count : ℕ) (b : List ℕ) → rising 0 (places count b) ≡ true → isListed g (places count b) ≡ true
+    → before g (places count b) < count
 place-listed g count b r e =
     let ss = places count b in
-    let at = and-eq-true-iff (ltb (before g ss) (length ss)) (eqb (segmentOf (getD ss (before g ss) [])) g) .0 (sym (at-place g 0 ss r) ∙ e) in
+    let at = and-eq-true-iff (ltb (before g ss) (length ss)) (eqb (segmentOf (getD ss (before g ss) [])) g) .0
+    (sym (at-place g 0 ss r) ∙ e) in
     omega (arith, ltb-true (before g ss) (length ss) (at .0), length-places count b)
 
 pub place-within : (g count : ℕ) (b : List ℕ) → before g (places count b) ≤ count
 place-within g count b = omega (arith, before-le g (places count b), length-places count b)
 
-module _ (rule : Rule) (b s : List ℕ) (count : ℕ) (room : 44 * count ≤ length b) (slip : length s ≡ 44) (r : rising 0 (places count b) ≡ true) where
+module _ (rule : Rule) (b s : List ℕ) (count : ℕ) (room : 44 * count ≤ length b) (slip : length s ≡ 44)
+    (r : rising 0 (places count b) ≡ true) where
   abbrev p : ℕ
   p = before (segmentOf s) (places count b)
+
+  -- the bytes, where the segment is listed or not
+  abbrev bytes : Bool → List ℕ
+  bytes is-listed = choose is-listed (choose (rule (taken (placeAt b p)) (taken s)) (replaced b p s) b) (inserted b count p s)
 
   -- the slips on the board after a put
   pub listed-put : places (countOn b count s) (putOn rule b count s) ≡ putIn rule s (places count b)
@@ -60,21 +67,18 @@ module _ (rule : Rule) (b s : List ℕ) (count : ℕ) (room : 44 * count ≤ len
       judged false l = refl
 
       by : (u : Bool) → isListed (segmentOf s) (places count b) ≡ u
-          → places (countOn b count s) (putOn rule b count s)
-          ≡ choose (isListed (segmentOf s) (places count b))
-          (choose (rule (taken (getD (places count b) p [])) (taken s)) (set (places count b) p s) (places count b))
-          (take p (places count b) ++ s ∷ drop p (places count b))
+          → places (countOn b count s) (putOn rule b count s) ≡ putAt rule s (places count b) p (isListed (segmentOf s) (places count b))
       by true e =
           let l = place-listed (segmentOf s) count b r e in
           let there : placeAt b p ≡ getD (places count b) p [] = sym (nth-place count p b l) in
-          ap (λ (u : Bool). places (choose u count (suc count)) (choose u (choose (rule (taken (placeAt b p)) (taken s)) (replaced b p s) b) (inserted b count p s))) e
+          ap (λ (u : Bool). places (choose u count (suc count)) (bytes u)) e
           ∙ judged (rule (taken (placeAt b p)) (taken s)) l
           ∙ ap (λ (x : List ℕ). choose (rule (taken x) (taken s)) (set (places count b) p s) (places count b)) there
-          ∙ sym (chosen _ _ e)
+          ∙ ap (putAt rule s (places count b) p) (sym e)
       by false e =
-          ap (λ (u : Bool). places (choose u count (suc count)) (choose u (choose (rule (taken (placeAt b p)) (taken s)) (replaced b p s) b) (inserted b count p s))) e
+          ap (λ (u : Bool). places (choose u count (suc count)) (bytes u)) e
           ∙ places-inserted b s count p room slip (place-within (segmentOf s) count b)
-          ∙ sym (not-chosen _ _ e)
+          ∙ ap (putAt rule s (places count b) p) (sym e)
 
   pub length-put : (isListed (segmentOf s) (places count b) ≡ false → 44 * suc count ≤ length b) → length (putOn rule b count s) ≡ length b
   unfolding putOn
@@ -86,10 +90,10 @@ module _ (rule : Rule) (b s : List ℕ) (count : ℕ) (room : 44 * count ≤ len
 
       by : (u : Bool) → isListed (segmentOf s) (places count b) ≡ u → length (putOn rule b count s) ≡ length b
       by true e =
-          ap (λ (u : Bool). length (choose u (choose (rule (taken (placeAt b p)) (taken s)) (replaced b p s) b) (inserted b count p s))) e
+          ap (λ (u : Bool). length (bytes u)) e
           ∙ judged (rule (taken (placeAt b p)) (taken s)) (place-listed (segmentOf s) count b r e)
       by false e =
-          ap (λ (u : Bool). length (choose u (choose (rule (taken (placeAt b p)) (taken s)) (replaced b p s) b) (inserted b count p s))) e
+          ap (λ (u : Bool). length (bytes u)) e
           ∙ length-inserted b s count p (h e) (place-within (segmentOf s) count b) slip
 
 -- ---- a turn of a series
@@ -102,7 +106,8 @@ pub record Done (rule : Rule) (b : Board) (s : List ℕ) : Type 0 where
 
 pub data Turn (rule : Rule) (b : Board) (s : List ℕ) : Type 0 where
   broken : isSlip s ≡ false → answerTo b s ≡ refused 13 → put rule b s ≡ b → Turn rule b s
-  full : isSlip s ≡ true → isListed (segmentOf s) (listed b) ≡ false → b .count ≡ 512 → answerTo b s ≡ refused 14 → put rule b s ≡ b → Turn rule b s
+  full : isSlip s ≡ true → isListed (segmentOf s) (listed b) ≡ false → b .count ≡ 512 → answerTo b s ≡ refused 14 → put rule b s ≡ b
+      → Turn rule b s
   again : isSlip s ≡ true → isListed (segmentOf s) (listed b) ≡ true → Done rule b s → Turn rule b s
   new : isSlip s ≡ true → isListed (segmentOf s) (listed b) ≡ false → b .count < 512 → Done rule b s → Turn rule b s
 
@@ -139,7 +144,9 @@ module _ (rule : Rule) (b : Board) (s : List ℕ) (g : Good b) where
       let same = changed a in
       let good : Good (left-by (accepted tt)) = record {
         size = size ∙ g .size;
-        good = good-board _ _ (counted (isListed (segmentOf s) (listed b)) refl few) (ap (rising 0) slips ∙ rising-put rule s 0 (listed b) e zero-le r);
+        good =
+            good-board _ _ (counted (isListed (segmentOf s) (listed b)) refl few)
+            (ap (rising 0) slips ∙ rising-put rule s 0 (listed b) e zero-le r);
       } in
       record {
         answer = a;

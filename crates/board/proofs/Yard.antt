@@ -23,12 +23,14 @@ use Rattle.board.specs.Series.{left}
 
 pub later-start : (listed new : Fields) → listed .start < new .start → startFirst listed new ≡ true
 later-start listed new l =
-    not-chosen (ltb (rankOf new) (rankOf listed)) (ltb (listed .start) (new .start)) (ne-eqb (listed .start) (new .start) (λ e. absurd (omega (arith, e))))
+    not-chosen (ltb (rankOf new) (rankOf listed)) (ltb (listed .start) (new .start))
+    (ne-eqb (listed .start) (new .start) (λ e. absurd (omega (arith, e))))
     ∙ lt-ltb (listed .start) (new .start) l
 
 pub earlier-start : (listed new : Fields) → new .start < listed .start → startFirst listed new ≡ false
 earlier-start listed new l =
-    not-chosen (ltb (rankOf new) (rankOf listed)) (ltb (listed .start) (new .start)) (ne-eqb (listed .start) (new .start) (λ e. absurd (omega (arith, e))))
+    not-chosen (ltb (rankOf new) (rankOf listed)) (ltb (listed .start) (new .start))
+    (ne-eqb (listed .start) (new .start) (λ e. absurd (omega (arith, e))))
     ∙ le-ltb (listed .start) (new .start) (omega arith)
 
 -- and the reading only between equal starts; if both are equal the listed slip remains

@@ -46,7 +46,8 @@ slice-write-place : tie.Need-slice-write-place Inv-loop μ-loop
 slice-write-place c =
     let at = c .before .before in
     let a = at .before .args in
-    omega (arith, size (a .place .now) (a .slip .now) (at .loop .i) (at .loop .place) (omega arith) (at .before .pre .0) (at .before .pre .1) (at .loop .inv .1))
+    let pre = at .before .pre in
+    omega (arith, size (a .place .now) (a .slip .now) (at .loop .i) (at .loop .place) (omega arith) (pre .0) (pre .1) (at .loop .inv .1))
 
 add-i : tie.Need-add-i Inv-loop μ-loop
 add-i c = search needs
@@ -58,19 +59,22 @@ loop-again : tie.Need-loop-again Inv-loop μ-loop
 loop-again c =
     let at = c .before .before in
     let a = at .before .args in
-    (omega arith, more (a .place .now) (a .slip .now) (at .loop .place) (at .loop .i) (omega arith) (at .before .pre .0) (at .before .pre .1) (at .loop .inv .1))
+    let pre = at .before .pre in
+    (omega arith, more (a .place .now) (a .slip .now) (at .loop .place) (at .loop .i) (omega arith) (pre .0) (pre .1) (at .loop .inv .1))
 
 same-length : tie.Need-same-length Inv-loop μ-loop
 same-length c =
     let at = c .before in
     let a = at .before .args in
-    size (a .place .now) (a .slip .now) (at .loop .i) (at .loop .place) (omega arith) (at .before .pre .0) (at .before .pre .1) (at .loop .inv .1) ∙ sym (at .before .pre .0)
+    let pre = at .before .pre in
+    size (a .place .now) (a .slip .now) (at .loop .i) (at .loop .place) (omega arith) (pre .0) (pre .1) (at .loop .inv .1) ∙ sym (pre .0)
 
 returns : tie.Need-returns Inv-loop μ-loop
 returns c =
     let at = c .before in
     let a = at .before .args in
-    all (a .place .now) (a .slip .now) (at .loop .place) (at .loop .i) (omega arith) (at .before .pre .0) (at .before .pre .1) (at .loop .inv .1)
+    let pre = at .before .pre in
+    all (a .place .now) (a .slip .now) (at .loop .place) (at .loop .i) (omega arith) (pre .0) (pre .1) (at .loop .inv .1)
 
 pub fill-spec : {M : Type 1} → statement M
 fill-spec =

@@ -33,7 +33,8 @@ returns c =
     let start = moved .before .before .before .before in
     let part = start .args .part .now in
     ap₂ _++_ (filled .fill .ensures)
-    (ap (drop 44) (moved .move-up .ensures) ∙ drop-at (take 44 part) (take (length part - 44) part) 44 (length-take-le 44 part (start .pre .0)))
+    (ap (drop 44) (moved .move-up .ensures)
+    ∙ drop-at (take 44 part) (take (length part - 44) part) 44 (length-take-le 44 part (start .pre .0)))
 
 pub insert-spec : {M : Type 1} → statement M
 insert-spec = tie.close (tie.spec move-up-requires sub-fill part-fill-start part-fill-end fill-requires same-length returns)

@@ -66,7 +66,8 @@ returns c =
     let at = called .before .before .before in
     let a = at .before .before .args in
     let i = at .loop .i in
-    let past = passed (a .count) i (a .board .now) (at .loop .least) (called .least-after .result) (omega arith) (called .least-after .ensures) in
+    let least = called .least-after in
+    let past = passed (a .count) i (a .board .now) (at .loop .least) (least .result) (omega arith) (least .ensures) in
     sym (sym (at .loop .inv .1) ∙ past .0 (c .if1 .taken))
 
 add-i : tie.Need-add-i Inv-loop μ-loop
@@ -81,7 +82,8 @@ loop-again c =
     let at = called .before .before .before in
     let a = at .before .before .args in
     let i = at .loop .i in
-    let past = passed (a .count) i (a .board .now) (at .loop .least) (called .least-after .result) (omega arith) (called .least-after .ensures) in
+    let least = called .least-after in
+    let past = passed (a .count) i (a .board .now) (at .loop .least) (least .result) (omega arith) (least .ensures) in
     (omega arith, past .1 (c .if1 .left) ∙ at .loop .inv .1)
 
 returns-2 : tie.Need-returns-2 Inv-loop μ-loop

@@ -25,8 +25,8 @@ put-back b s y p e =
     (ap₂ _++_ e (post-is (44 * p) (44 * p + 44) b (omega arith) ∙ ap (λ (n : ℕ). drop n b) last))
 
 -- what the rule says of the slip at the place and of the new one, by their values as they were taken
-decided : (b s : List ℕ) (p : ℕ) (listed new : Fields) (t : Bool) → listed ≡ taken (take (44 * p + 44 - 44 * p) (drop (44 * p) b)) → new ≡ taken s
-    → t ≡ startFirst listed new → startFirst (taken (placeAt b p)) (taken s) ≡ t
+decided : (b s : List ℕ) (p : ℕ) (listed new : Fields) (t : Bool) → listed ≡ taken (take (44 * p + 44 - 44 * p) (drop (44 * p) b))
+    → new ≡ taken s → t ≡ startFirst listed new → startFirst (taken (placeAt b p)) (taken s) ≡ t
 decided b s p listed new t e f q = sym (q ∙ ap₂ startFirst (e ∙ ap taken (part p b)) f)
 
 mul-at : tie.Need-mul-at
@@ -76,7 +76,8 @@ returns c =
     let second = judged .before in
     let first = second .before in
     let a = first .before .before .before .before .before .args in
-    let rule = decided (a .board .now) (a .slip .now) (a .place) _ _ _ (first .take-fields .ensures) (second .take-fields2 .ensures) (judged .replaces .ensures)
+    let rule = decided (a .board .now) (a .slip .now) (a .place) _ _ _ (first .take-fields .ensures) (second .take-fields2 .ensures)
+    (judged .replaces .ensures)
     ∙ then .if1 .taken in
     put-back (a .board .now) (a .slip .now) _ (a .place) (filled .fill .ensures)
     ∙ sym (chosen (replaced (a .board .now) (a .place) (a .slip .now)) (a .board .now) rule)
@@ -90,7 +91,8 @@ returns-2 c =
     let second = judged .before in
     let first = second .before in
     let a = first .before .before .before .before .before .args in
-    let rule = decided (a .board .now) (a .slip .now) (a .place) _ _ _ (first .take-fields .ensures) (second .take-fields2 .ensures) (judged .replaces .ensures)
+    let rule = decided (a .board .now) (a .slip .now) (a .place) _ _ _ (first .take-fields .ensures) (second .take-fields2 .ensures)
+    (judged .replaces .ensures)
     ∙ c .if1 .left in
     sym (not-chosen (replaced (a .board .now) (a .place) (a .slip .now)) (a .board .now) rule)
 

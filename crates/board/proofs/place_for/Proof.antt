@@ -61,7 +61,8 @@ returns c =
     let at = called .before .before .before in
     let a = at .before .before .args in
     let i = at .loop .i in
-    let none = passed-none (a .count) i (a .board .now) (a .segment) (called .segment-of .result) (omega arith) (called .segment-of .ensures .0) (c .if1 .taken) in
+    let its = called .segment-of in
+    let none = passed-none (a .count) i (a .board .now) (a .segment) (its .result) (omega arith) (its .ensures .0) (c .if1 .taken) in
     omega (arith, none, at .loop .inv .1)
 
 add-i : tie.Need-add-i Inv-loop μ-loop
@@ -76,7 +77,9 @@ loop-again c =
     let at = called .before .before .before in
     let a = at .before .before .args in
     let i = at .loop .i in
-    let one = passed-one (a .count) i (a .board .now) (a .segment) (called .segment-of .result) (omega arith) (called .segment-of .ensures .0) (omega (arith, c .if1 .left)) in
+    let its = called .segment-of in
+    let one = passed-one (a .count) i (a .board .now) (a .segment) (its .result) (omega arith) (its .ensures .0)
+    (omega (arith, c .if1 .left)) in
     (omega arith, omega (arith, one, at .loop .inv .1))
 
 returns-2 : tie.Need-returns-2 Inv-loop μ-loop

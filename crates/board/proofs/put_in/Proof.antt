@@ -15,7 +15,8 @@ use Rattle.board.proofs.put_in.Statement.{statement}
 use Rattle.board.proofs.put_in.Tie as tie
 
 -- the places that are written lie on the board
-module _ (b : List ℕ) (count p g : ℕ) (size : length b ≡ 44 * 512) (good : goodBoard b count ≡ true) (at : p ≡ before g (places count b)) where
+module _ (b : List ℕ) (count p g : ℕ) (size : length b ≡ 44 * 512) (good : goodBoard b count ≡ true)
+    (at : p ≡ before g (places count b)) where
   few : count ≤ 512
   few = most b count good
 
@@ -46,7 +47,8 @@ judge-requires c κs =
     let found = tested .before .before in
     let start = found .before .before .before .before .before .before in
     let a = start .args in (
-      listed-within (a .board .now) (a .count .now) _ _ (start .pre .0) (start .pre .1 .0) (found .place-for .ensures) (sym (tested .is-at .ensures) ∙ then .if1 .taken),
+      listed-within (a .board .now) (a .count .now) _ _ (start .pre .0) (start .pre .1 .0) (found .place-for .ensures)
+          (sym (tested .is-at .ensures) ∙ then .if1 .taken),
       length-slip _ (start .pre .1 .1),
     )
 
@@ -62,8 +64,8 @@ returns c =
     let first = found .before .before in
     let start = first .before .before .before .before in
     let a = start .args in
-    judged startFirst (a .board .now) (a .slip .now) (a .count .now) _ _ (start .pre .0) (start .pre .1 .0) (start .pre .1 .1) (first .segment-of .ensures .0)
-    (found .place-for .ensures) _ (sym (tested .is-at .ensures) ∙ then .if1 .taken) (done .judge .ensures)
+    judged startFirst (a .board .now) (a .slip .now) (a .count .now) _ _ (start .pre .0) (start .pre .1 .0) (start .pre .1 .1)
+    (first .segment-of .ensures .0) (found .place-for .ensures) _ (sym (tested .is-at .ensures) ∙ then .if1 .taken) (done .judge .ensures)
 
 same-length-2 : tie.Need-same-length-2
 same-length-2 c = search needs
@@ -76,8 +78,8 @@ returns-2 c =
     let first = found .before .before in
     let start = first .before .before .before .before in
     let a = start .args in
-    no-room startFirst (a .board .now) (a .slip .now) (a .count .now) _ _ (start .pre .0) (start .pre .1 .0) (start .pre .1 .1) (first .segment-of .ensures .0)
-    (found .place-for .ensures) (sym (tested .is-at .ensures) ∙ else .if1 .left) (c .if2 .taken)
+    no-room startFirst (a .board .now) (a .slip .now) (a .count .now) _ _ (start .pre .0) (start .pre .1 .0) (start .pre .1 .1)
+    (first .segment-of .ensures .0) (found .place-for .ensures) (sym (tested .is-at .ensures) ∙ else .if1 .left) (c .if2 .taken)
 
 insert-at-requires : tie.Need-insert-at-requires
 insert-at-requires c κs =
@@ -87,7 +89,10 @@ insert-at-requires c κs =
     let a = start .args in
     let few = most _ _ (start .pre .1 .0) in (
       omega (arith, start .pre .0, few, room .if2 .left),
-      (within (a .board .now) (a .count .now) _ _ (start .pre .0) (start .pre .1 .0) (found .place-for .ensures), length-slip _ (start .pre .1 .1)),
+      (
+        within (a .board .now) (a .count .now) _ _ (start .pre .0) (start .pre .1 .0) (found .place-for .ensures),
+        length-slip _ (start .pre .1 .1),
+      ),
     )
 
 add-count : tie.Need-add-count
@@ -108,8 +113,8 @@ returns-3 c =
     let first = found .before .before in
     let start = first .before .before .before .before in
     let a = start .args in
-    put-before startFirst (a .board .now) (a .slip .now) (a .count .now) _ _ (start .pre .0) (start .pre .1 .0) (start .pre .1 .1) (first .segment-of .ensures .0)
-    (found .place-for .ensures) _ (sym (tested .is-at .ensures) ∙ else .if1 .left) (room .if2 .left) (done .insert-at .ensures)
+    put-before startFirst (a .board .now) (a .slip .now) (a .count .now) _ _ (start .pre .0) (start .pre .1 .0) (start .pre .1 .1)
+    (first .segment-of .ensures .0) (found .place-for .ensures) _ (sym (tested .is-at .ensures) ∙ else .if1 .left) (room .if2 .left) (done .insert-at .ensures)
 
 pub put-in-spec : {M : Type 1} → statement M
 put-in-spec =

@@ -32,7 +32,8 @@ returns-3 c =
     let few = tested .before .before .before in
     let long = few .before .before in
     let a = long .before .before .before .args in
-    not-rising startFirst (a .board .now) (a .slip .now) (a .count .now) (long .if1 .left) (sym (tested .is-rising .ensures) ∙ not-true _ (c .if3 .taken))
+    not-rising startFirst (a .board .now) (a .slip .now) (a .count .now) (long .if1 .left)
+    (sym (tested .is-rising .ensures) ∙ not-true _ (c .if3 .taken))
 
 is-slip-requires : tie.Need-is-slip-requires
 is-slip-requires c κs = search needs
@@ -45,7 +46,8 @@ returns-4 c =
     let read = c .before in
     let long = read .before .before .before .before .before .before .before in
     let a = long .before .before .before .args in
-    no-slip startFirst (a .board .now) (a .slip .now) (a .count .now) (long .if1 .left) (sym (read .is-slip .ensures) ∙ not-true _ (c .if4 .taken))
+    no-slip startFirst (a .board .now) (a .slip .now) (a .count .now) (long .if1 .left)
+    (sym (read .is-slip .ensures) ∙ not-true _ (c .if4 .taken))
 
 put-in-requires : tie.Need-put-in-requires
 put-in-requires c κs =

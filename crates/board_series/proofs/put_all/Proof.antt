@@ -1,8 +1,7 @@
 -- `board_series::put_all` is safe and ends. The invariant: the board keeps its length. The measure is how many puts are left.
 -- Assumes nothing.
 use Prim.Native.Nat.{_-_, _≤_}
-use mathlib.Core.Path.{_≡_, sym, _∙_}
-use native.Mathlib.Omega.{arith}
+use mathlib.Core.Path.{_≡_}
 use borrow.Author.Needs.{needs}
 use lib.ListN.{length}
 use Rattle.board_series.proofs.put_all.Statement.{statement}
