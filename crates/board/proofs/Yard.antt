@@ -1,7 +1,7 @@
 -- The yard's two rules as they are for now, in document 02's words; and that no slip of a segment's series would replace the one
--- that is left. Assumes nothing.
-use Prim.Native.Nat.{ℕ, _≤_, _<_}
-use mathlib.Core.Bool.{Bool, true, false, _||_, true≢false}
+-- that is left, nor the one that the board shows. Assumes nothing.
+use Prim.Native.Nat.{ℕ, _*_, _≤_, _<_}
+use mathlib.Core.Bool.{Bool, true, false, _&&_, _||_, true≢false}
 use mathlib.Core.List.{List, [], _∷_}
 use mathlib.Core.Option.{none, some}
 use mathlib.Core.Path.{_≡_, refl, sym, ap₂, subst, _∙_}
@@ -10,14 +10,17 @@ use native.Mathlib.Omega.{arith}
 use borrow.Author.Tests.{eqb-true, eqb-false, ltb-true, ltb-false, lt-ltb, le-ltb, eq-eqb, ne-eqb}
 use lib.Dec.{eqb, ltb}
 use lib.Ieee.{Float}
+use lib.ListN.{length}
 use Rattle.util.specs.Choose.{choose}
 use Rattle.util.specs.Some.{someOf}
 use Rattle.util.proofs.Choose.{chosen, not-chosen}
 use Rattle.trellis.specs.Answer.{Sure, Kept, Open}
-use Rattle.slip.specs.Slips.{taken}
+use Rattle.slip.specs.Slips.{taken, isSlip}
 use Rattle.slip.specs.declared.Fields.{Fields}
+use Rattle.board.specs.Places.{shown}
 use Rattle.board.specs.Rules.{Rule, judge, rank, rankOf, startFirst, Orders}
-use Rattle.board.specs.Series.{left}
+use Rattle.board.specs.Series.{listed, ran, those, isOf, left, has, firsts, empty}
+use Rattle.board.proofs.Series.{from-empty}
 
 -- ---- the start first
 
@@ -145,3 +148,16 @@ module _ (rule : Rule) (o : Orders rule) where
   unbeaten (x ∷ xs) l e =
       let rest = from x xs l e in
       ap₂ _||_ (rest .0 (taken x) (o .not-itself (taken x))) (rest .1)
+
+-- ---- so on the board
+
+-- after any series from an empty board no slip of a segment would replace the one that is shown for it
+pub shown-unbeaten : (bytes : List ℕ) (xs : List (List ℕ)) → length bytes ≡ 44 * 512 → (g : ℕ) (l : List ℕ)
+    → shown g (listed (ran startFirst (empty bytes) xs)) ≡ some l
+    → someOf (λ y. startFirst (taken l) (taken y)) (those (λ x. isSlip x && isOf g x) xs) ≡ false
+shown-unbeaten bytes xs size g l e = by (has g (firsts 512 [] xs)) (sym (from-empty startFirst bytes xs size .shows-all g) ∙ e)
+  where
+    by : (t : Bool) → choose t (left startFirst none (those (λ x. isSlip x && isOf g x) xs)) none ≡ some l
+        → someOf (λ y. startFirst (taken l) (taken y)) (those (λ x. isSlip x && isOf g x) xs) ≡ false
+    by true q = unbeaten startFirst start-first-orders (those (λ x. isSlip x && isOf g x) xs) l q
+    by false q = let never : _≡_ {A = ℕ} 0 1 = cc in absurd (omega arith)

@@ -1,11 +1,12 @@
 // The segment board (document 02, #105): one slip a segment, segments rising, over 512 lent places of 44 bytes with a count. What a put
-// leaves and refuses is in specs/, and what a board shows after any series of slips in proofs/Series.antt, under any rule.
+// leaves and refuses is in specs/Putting.antt, what a board shows after any series of slips in specs/Series.antt (`After`, proved in
+// proofs/Series.antt, under any rule).
 ghost use Prim.Native.Nat.{suc, _-_, _*_, _^_, _≤_, _<_};
-ghost use mathlib.Core.Bool.{true, false, _&&_};
+ghost use mathlib.Core.Bool.{true, _&&_};
 ghost use mathlib.Core.List.{_++_};
 ghost use mathlib.Core.Path.{_≡_};
-ghost use lib.Dec.{eqb, leb, ltb};
-ghost use lib.ListN.{length, take, drop};
+ghost use lib.Dec.{leb};
+ghost use lib.ListN.{length, take};
 ghost use Rattle.util.specs.Choose.{choose};
 ghost use Rattle.header.specs.Read.{outcomeIs};
 ghost use Rattle.slip.specs.Slips.{isSlip, taken};
@@ -14,7 +15,7 @@ ghost use Rattle.board.specs.Rules as Rules;
 ghost use Rattle.board.specs.Rules.{startFirst, rankOf};
 ghost use Rattle.board.specs.Putting.{putIs, putting, replaced, inserted, boardAfter, countAfter};
 
-// The slip is on the board, or was judged and is not; or the refusal's number.
+// The slip was put, or judged and not taken; or the refusal's number.
 pub enum Put {
     Done,
     Refused(u8),
@@ -71,7 +72,8 @@ fn segment_of(place: &[u8]) -> u64
 // The least segment that may come after a place's; 0 where the place holds no slip, or one of a segment below `least`.
 fn least_after(place: &[u8], least: u64) -> u64
     requires { ⌜ length (now place) ≡ 44 ⌝ }
-    ensures { λ r. ⌜ r ≡ choose (isSlip (now (place .entry)) && leb least (segmentOf (now (place .entry)))) (suc (segmentOf (now (place .entry)))) 0 ⌝ }
+    ensures { λ r. ⌜ r ≡ choose (isSlip (now (place .entry)) && leb least (segmentOf (now (place .entry))))
+        (suc (segmentOf (now (place .entry)))) 0 ⌝ }
 {
     if !is_slip(place) {
         return 0;
@@ -117,7 +119,8 @@ fn place_for(board: &[u8], count: usize, segment: u64) -> usize
 
 // Whether a segment is listed, at the place where it belongs.
 fn is_at(board: &[u8], count: usize, place: usize, segment: u64) -> bool
-    requires { ⌜ (44 * count ≤ length (now board)) × ((rising 0 (places count (now board)) ≡ true) × (place ≡ before segment (places count (now board)))) ⌝ }
+    requires { ⌜ (44 * count ≤ length (now board))
+        × ((rising 0 (places count (now board)) ≡ true) × (place ≡ before segment (places count (now board)))) ⌝ }
     ensures { λ r. ⌜ r ≡ isListed segment (places count (now (board .entry))) ⌝ }
 {
     if place >= count {
@@ -161,7 +164,7 @@ fn insert(part: &mut [u8], slip: &[u8])
     fill(&mut part[0..44], slip);
 }
 
-// The listed slip of place p is judged.
+// The new slip is judged against the listed one of a place.
 fn judge(board: &mut [u8], place: usize, slip: &[u8])
     requires { ⌜ (44 * suc place ≤ length (now board)) × (length (now slip) ≡ 44) ⌝ }
     ensures { λ _. ⌜ now (board .exit) ≡ choose (startFirst (taken (placeAt (now (board .entry)) place)) (taken (now (slip .entry))))
