@@ -1,5 +1,5 @@
 // Reads one burst from a file or from standard input and prints what it says: the header's word (bit j at place j), its
-// outcome, score and CRC, how many data symbols there are, and with the words `slip START SEGMENT`, `soft` and `metrics` as
+// outcome, score, ceiling and CRC, how many data symbols there are, and with the words `slip START SEGMENT`, `soft` and `metrics` as
 // arguments the header's slip, the soft bits and the metrics. docs/BURST-FORMAT.md has the file's table and the lines; `burst
 // --help` prints the usage.
 // Everything is worked out before anything is printed. Bad input gets one line on standard error and an empty standard
@@ -81,7 +81,7 @@ fn show_outcome(block: &mut [u8], out: Waiting, outcome: header::Outcome) -> Wai
     }
 }
 
-// The five lines of every burst.
+// The six lines of every burst.
 fn show_answer(
     block: &mut [u8],
     head: Head,
@@ -91,6 +91,7 @@ fn show_answer(
     let outcome = answer.outcome;
     let out = burst_lines::header(block, output::nothing(), head.kind, answer.word);
     let out = show_outcome(block, out, outcome);
+    let out = burst_lines::ceiling(block, out, answer.ceiling);
     let good = verdict::crc_is_good(head.mode, head.kind, head.layout, answer.word);
     let out = burst_lines::crc(block, out, good);
     let erased = verdict::erased_count(head.layout, head.window, counts);

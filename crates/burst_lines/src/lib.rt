@@ -18,6 +18,13 @@ fn scored(block: &mut [u8], out: Waiting, x: f32) -> Waiting {
     text(block, out, b"\n")
 }
 
+// Inside: the ceiling.
+pub fn ceiling(block: &mut [u8], out: Waiting, x: f32) -> Waiting {
+    let out = text(block, out, b"ceiling ");
+    let out = float(block, out, x);
+    text(block, out, b"\n")
+}
+
 // Inside: the outcome Sure, the pass and the score.
 pub fn sure(block: &mut [u8], out: Waiting, score: f32, pass: u8) -> Waiting {
     let out = counted(block, out, b"outcome Sure, pass ", pass as u64);

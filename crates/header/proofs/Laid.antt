@@ -12,10 +12,10 @@ use Rattle.frame.specs.Format.{headerBits}
 use Rattle.frame.proofs.Air.{header-most, header-least, header-even}
 use Rattle.conv.specs.Label.{labelOf}
 use Rattle.conv.proofs.Linear.{label-lt}
-use Rattle.trellis.specs.Search.{How, Found, search}
+use Rattle.trellis.specs.Search.{How, Found, search, ceiling}
 use Rattle.trellis.specs.Numbers.{single}
 use Rattle.trellis.specs.Terms.{header, lent}
-use Rattle.trellis.proofs.Alike.{Same, reach, search-alike}
+use Rattle.trellis.proofs.Alike.{Same, reach, search-alike, ceiling-alike}
 use Rattle.pass.specs.Areas.{table, stepsIn, over}
 use Rattle.search.specs.Lent.{Lent}
 use Rattle.search.proofs.Passes.{same}
@@ -77,6 +77,11 @@ module _ (mode kind : ℕ) (terms list : List Float) (rows : Rows mode kind term
   room : reach (headerBits kind * 0) 3 ≤ 0
   unfolding reach
   room = omega arith
+
+  pub ceiling-same : ceiling (over part) ≡ ceiling (header single mode kind (lent terms))
+  ceiling-same =
+      ap (λ (m : ℕ). ceiling (record { scale = single; states = 16384; steps = m; earn = over part .earn })) part-steps
+      ∙ ceiling-alike (same single) 16384 (headerBits kind) 0 refl (lit≤ tt) (over part .earn) (header single mode kind (lent terms) .earn) earns room
 
   pub search-same : search (over part) ≡ search (header single mode kind (lent terms))
   search-same =

@@ -25,7 +25,7 @@ outcomeIs (Kept x) = Answer.Kept x
 outcomeIs (Open x) = Answer.Open x
 
 abbrev pub answerIs : HeaderAnswer → Answer.Answer Float
-answerIs a = record { word = a .word; outcome = outcomeIs (a .outcome) }
+answerIs a = record { word = a .word; outcome = outcomeIs (a .outcome); ceiling = a .ceiling }
 
 abbrev pub meaning : HeaderRead → Refusal.Outcome (Answer.Answer Float)
 meaning (Answer a) = accepted (answerIs a)

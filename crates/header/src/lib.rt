@@ -1,5 +1,5 @@
 // The header read: the search over its steps' metrics and lent areas, the answer, the refusals. Its promise
-// carries demand 3 and what holds for any terms. Definitions in specs/ and in crate trellis.
+// carries demand 3, what the ceiling bounds, and what holds for any terms. Definitions in specs/ and in crate trellis.
 ghost use mathlib.Core.Path.{_≡_};
 ghost use mathlib.Core.Bool.{false};
 ghost use Prim.Native.Nat.{_*_};
@@ -20,10 +20,12 @@ pub enum Outcome {
     Open(f32),
 }
 
-// The word has header bit j at place j from the lowest, and zeros above the last.
+// The word has header bit j at place j from the lowest, and zeros above the last. The ceiling is the least, over the
+// passes run, of the greatest gain of a state, its end score less its start score (document 02, #106).
 pub struct HeaderAnswer {
     pub word: u64,
     pub outcome: Outcome,
+    pub ceiling: f32,
 }
 
 // The answer, or the refusal's number.
@@ -65,6 +67,7 @@ fn searched(
     HeaderAnswer {
         word: found.word,
         outcome: outcome_of(how, found.score),
+        ceiling: found.ceiling,
     }
 }
 
@@ -101,8 +104,8 @@ fn room(kind: u8, terms: usize, scores: usize, next: usize, start: usize, decisi
     decisions == n * 256
 }
 
-// Public entry: the header read (document 01, 'A header read'). `claims` has demand 3, for whole terms from
-// -800 to 800, and what holds of every read that is not refused.
+// Public entry: the header read (document 01, 'A header read'; document 02, #106). `claims` has demand 3 and that no
+// closed word is above the ceiling, for whole terms from -800 to 800, and what holds of every read that is not refused.
 pub fn read_header(
     mode: u8,
     kind: u8,

@@ -10,27 +10,29 @@ use Rattle.trellis.specs.Answer.{scoreIn}
 use Rattle.header.specs.Read.{Areas, headerRead, areaAfter}
 use Rattle.outcome.specs.Numbers.{outcomeNumber, passNumber, outcomeAt}
 
--- the four places lent for its answer
+-- the five places lent for its answer
 pub record Lent : Type 0 where
   pub word : ℕ
   pub outcome : ℕ
   pub pass : ℕ
   pub score : Float
+  pub ceiling : Float
 
-abbrev pub lent : ℕ → ℕ → ℕ → Float → Lent
-lent word outcome pass score = record { word = word; outcome = outcome; pass = pass; score = score }
+abbrev pub lent : ℕ → ℕ → ℕ → Float → Float → Lent
+lent word outcome pass score ceiling = record { word = word; outcome = outcome; pass = pass; score = score; ceiling = ceiling }
 
 -- the answer that they hold
 abbrev pub answerAt : Lent → Answer.Answer Float
-answerAt l = record { word = l .word; outcome = outcomeAt (l .outcome) (l .pass) (l .score) }
+answerAt l = record { word = l .word; outcome = outcomeAt (l .outcome) (l .pass) (l .score); ceiling = l .ceiling }
 
--- by the entry's outcome o: the number, the four places and the four areas at exit
+-- by the entry's outcome o: the number, the five places and the four areas at exit
 pub record Faced (o : Outcome (Answer.Answer Float)) (w w′ : Areas) (was new : Lent) (r : ℕ) : Type 0 where
   pub answer : r ≡ number o
   pub of-word : new .word ≡ place (λ (a : Answer.Answer Float). a .word) o (was .word)
   pub of-outcome : new .outcome ≡ place (λ (a : Answer.Answer Float). outcomeNumber (a .outcome)) o (was .outcome)
   pub of-pass : new .pass ≡ place (λ (a : Answer.Answer Float). passNumber (a .outcome)) o (was .pass)
   pub of-score : new .score ≡ place (λ (a : Answer.Answer Float). scoreIn (a .outcome)) o (was .score)
+  pub of-ceiling : new .ceiling ≡ place (λ (a : Answer.Answer Float). a .ceiling) o (was .ceiling)
   pub of-scores : w′ .scores ≡ areaAfter o plusZero (w .scores)
   pub of-next : w′ .next ≡ areaAfter o plusZero (w .next)
   pub of-start : w′ .start ≡ areaAfter o plusZero (w .start)

@@ -1,4 +1,4 @@
-// The header read's face to C: the answer in four places, written only where it is not refused, and its number. The entry itself
+// The header read's face to C: the answer in five places, written only where it is not refused, and its number. The entry itself
 // is crate `header`. Definitions in specs/.
 ghost use mathlib.Core.Path.{_≡_};
 ghost use Rattle.trellis.specs.Demand.{Claims};
@@ -18,14 +18,15 @@ pub fn read(
     outcome: &mut u8,
     pass: &mut u8,
     score: &mut f32,
+    ceiling: &mut f32,
 ) -> u32
     ensures face { λ r. ⌜ HeaderFace mode kind (now (terms .entry))
         (areas (now (scores .entry)) (now (next .entry)) (now (start .entry)) (now (decisions .entry)))
         (areas (now (scores .exit)) (now (next .exit)) (now (start .exit)) (now (decisions .exit)))
-        (lent (now (word .entry)) (now (outcome .entry)) (now (pass .entry)) (now (score .entry)))
-        (lent (now (word .exit)) (now (outcome .exit)) (now (pass .exit)) (now (score .exit))) r ⌝ }
+        (lent (now (word .entry)) (now (outcome .entry)) (now (pass .entry)) (now (score .entry)) (now (ceiling .entry)))
+        (lent (now (word .exit)) (now (outcome .exit)) (now (pass .exit)) (now (score .exit)) (now (ceiling .exit))) r ⌝ }
     ensures claims { λ r. ⌜ (r ≡ 0 → Claims mode kind (now (terms .entry))
-        (answerAt (lent (now (word .exit)) (now (outcome .exit)) (now (pass .exit)) (now (score .exit))))) ⌝ }
+        (answerAt (lent (now (word .exit)) (now (outcome .exit)) (now (pass .exit)) (now (score .exit)) (now (ceiling .exit))))) ⌝ }
 {
     match header::read_header(mode, kind, terms, scores, next, start, decisions) {
         header::HeaderRead::Answer(a) => {
@@ -35,6 +36,7 @@ pub fn read(
             *outcome = numbers.outcome;
             *pass = numbers.pass;
             *score = numbers.score;
+            *ceiling = a.ceiling;
             0
         }
         header::HeaderRead::Refused(k) => k as u32,

@@ -86,6 +86,8 @@
 --     a difference grows with the first and falls with the second
 -- Rounds.sub-nonpos : (f : Format) (x y : Float) → T (finite x) → T (finite y) → T (le x y) → T (le (sub f x y) plusZero)
 --     a value less a greater one is at most 0.0: the argument of exp
+-- Rounds.sub-nonneg : (f : Format) (x y : Float) → T (finite x) → T (finite y) → T (le y x) → T (le plusZero (sub f x y))
+--     a value less a smaller one is at least 0.0
 -- Rounds.mul-mono : (f : Format) (x x' y : Float) → T (finite x) → T (finite x') → T (finite y) → T (le x x') → T (le plusZero y) → T (le (mul f x y)
 -- (mul f x' y))
 --     a product grows with a factor where the other is not negative
@@ -164,6 +166,9 @@
 -- Sizes.run-upto : (f : Format) (k : ℕ) (x : ℕ → Float) (n : ℕ) → ((i : ℕ) → i < n → Upto 1 k (x i)) → n < 2 ^ prec f → k + prec f ≤ emax f → Upto n
 -- k (run (add f) plusZero x n)
 --     an n-step sum from 0.0 is bounded by n times the term
+-- Sizes.run-upto-from : (f : Format) (c m k : ℕ) {a : Float} (x : ℕ → Float) (n : ℕ) → Upto c k a → ((i : ℕ) → i < n → Upto m k (x i)) → c + n * m <
+-- 2 ^ prec f → k + prec f ≤ emax f → Upto (c + n * m) k (run (add f) a x n)
+--     the same from any bounded start
 -- Sizes.run-above : (f : Format) (k : ℕ) (x : ℕ → Float) (n : ℕ) → ((i : ℕ) → i < n → Upto 1 k (x i)) → ((i : ℕ) → i < n → T (le plusZero (x i))) → n
 -- < 2 ^ prec f → k + prec f ≤ emax f → T (le plusZero (run (add f) plusZero x n))
 --     an n-step sum of values that are not negative is not: a sum of squares
@@ -235,16 +240,23 @@
 -- Units.near-add : (f : Format) (h : ℕ) {m n k c d : ℕ} {x y : Float} {a b : ℤ} → Upto m k x → Upto n k y → Near (low f) c x a → Near (low f) d y b →
 -- m + n < 2 ^ prec f → k + prec f ≤ emax f → (m + n) * 2 ^ (k + low f) ≤ 2 ^ (prec f + suc h) → Near (low f) (c + d + 2 ^ h) (add f x y) (a +ℤ b)
 --     a sum of values that are off already: what each is off, and what the sum loses
--- Units.run-near : (f : Format) (k h d : ℕ) (x : ℕ → Float) (z : ℕ → ℤ) (n : ℕ) → ((i : ℕ) → i < n → Upto 1 k (x i)) → ((i : ℕ) → i < n → Near (low
--- f) d (x i) (z i)) → n < 2 ^ prec f → k + prec f ≤ emax f → n * 2 ^ (k + low f) ≤ 2 ^ (prec f + suc h) → Near (low f) (n * (d + 2 ^ h)) (run (add f)
--- plusZero x n) (run _+ℤ_ (pos 0) z n)
---     an n-step sum from 0.0 loses as much at each step: a metric, a walk
+-- Units.run-near : (f : Format) (k h c m d : ℕ) {a : Float} {s : ℤ} (x : ℕ → Float) (z : ℕ → ℤ) (n : ℕ) → Upto c k a → Units (low f) a s → ((i : ℕ)
+-- → i < n → Upto m k (x i)) → ((i : ℕ) → i < n → Near (low f) d (x i) (z i)) → c + n * m < 2 ^ prec f → k + prec f ≤ emax f → (c + n * m) * 2 ^ (k +
+-- low f) ≤ 2 ^ (prec f + suc h) → Near (low f) (n * (d + 2 ^ h)) (run (add f) a x n) (run _+ℤ_ s z n)
+--     an n-step sum loses as much at each step: a metric and a walk, from 0.0, and a walk counted on from a start score
+-- Units.sub-near : (f : Format) (h : ℕ) {x y : Float} {a b : ℤ} → Units (low f) x a → Units (low f) y b → natAbs (a -ℤ b) ≤ 2 ^ (prec f + suc h) → T
+-- (finite (sub f x y)) → Near (low f) (2 ^ h) (sub f x y) (a -ℤ b)
+--     the rounding law of a difference: a state's gain
+-- Units.units-zero : {j : ℕ} → Units j plusZero (pos 0)
+--     0.0 is no unit
 -- Units.near-units : {j : ℕ} {x : Float} {z : ℤ} → Units j x z → Near j 0 x z
 --     a value is off by nothing from itself
 -- Units.near-wider : {j c : ℕ} {x : Float} {z : ℤ} (d : ℕ) → Near j c x z → c ≤ d → Near j d x z
 --     the room may be widened
 -- Units.lt-units : {j : ℕ} {x y : Float} {a b : ℤ} → Units j x a → Units j y b → lt x y ≡ ltZ a b
 --     floats are in the order of their units: from f32 scores to exact ones
+-- Units.le-units : {j : ℕ} {x y : Float} {a b : ℤ} → Units j x a → Units j y b → T (le x y) → a ≤ℤ b
+--     the same of `le`
 -- Units.units-grid : {j : ℕ} {x : Float} → Grid j x → Units j x (inUnits j x)
 --     a multiple of 2 ^ -j is a number of units, `inUnits`; `grid-fits` gives it for every finite value of the format
 -- Units.units-whole : (j : ℕ) {x : Float} {z : ℤ} → Whole x z → Units j x (pos (2 ^ j) *ℤ z)

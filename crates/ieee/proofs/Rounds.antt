@@ -210,6 +210,15 @@ sub-nonpos f x y p q h =
     (mul-pos (den-pos x) (den-pos (neg y))) (zero-lt-suc 0)
     (rw (n .0, n .1, n .2) (omega (arith, le→cross x y p q h)))
 
+-- and at least 0 where it is no less
+pub sub-nonneg : (f : Format) (x y : Float) → T (finite x) → T (finite y) → T (le y x) → T (le plusZero (sub f x y))
+unfolding sub
+sub-nonneg f x y p q h =
+    let n = neg-plus y q in
+    rounds-mono f plusZero (add f x (neg y)) 0 0 1 _ _ _ (inl (0, sym (zero-round f), refl)) (add-rounds f x (neg y) p (neg-finite y q))
+    (zero-lt-suc 0) (mul-pos (den-pos x) (den-pos (neg y)))
+    (rw (n .0, n .1, n .2) (omega (arith, le→cross y x q p h)))
+
 -- ---- the product
 mul-up : (px nx dx qx mx cx py dy : ℕ) → px * cx + mx * dx ≤ qx * dx + nx * cx
     → (px * py + nx * 0) * (cx * dy) + (qx * 0 + mx * py) * (dx * dy) ≤ (qx * py + mx * 0) * (dx * dy) + (px * 0 + nx * py) * (cx * dy)

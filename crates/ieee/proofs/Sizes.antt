@@ -225,14 +225,19 @@ zero-zero : T (le plusZero plusZero)
 unfolding le
 zero-zero = tt
 
+-- n terms, each within m * 2 ^ k, from what is within c * 2 ^ k
+pub run-upto-from : (f : Format) (c m k : ℕ) {a : Float} (x : ℕ → Float) (n : ℕ) → Upto c k a → ((i : ℕ) → i < n → Upto m k (x i)) → c + n * m < 2 ^ prec f
+    → k + prec f ≤ emax f → Upto (c + n * m) k (run (add f) a x n)
+unfolding run
+run-upto-from f c m k x zero u w h g = upto-wider (c + 0 * m) k u (omega arith)
+run-upto-from f c m k x (suc n) u w h g =
+    upto-wider (c + suc n * m) k (add-upto f (run-upto-from f c m k x n u (λ i l. w i (omega arith)) (omega arith) g) (w n (le-refl (suc n))) (omega arith) g)
+    (omega arith)
+
 -- n terms, each within 2 ^ k, from 0.0
 pub run-upto : (f : Format) (k : ℕ) (x : ℕ → Float) (n : ℕ) → ((i : ℕ) → i < n → Upto 1 k (x i)) → n < 2 ^ prec f → k + prec f ≤ emax f
     → Upto n k (run (add f) plusZero x n)
-unfolding run
-run-upto f k x zero w h g = upto-zero
-run-upto f k x (suc n) w h g =
-    upto-wider (suc n) k (add-upto f (run-upto f k x n (λ i m. w i (omega arith)) (omega arith) g) (w n (le-refl (suc n))) (omega arith) g)
-    (omega arith)
+run-upto f k x n w h g = upto-wider n k (run-upto-from f 0 1 k x n upto-zero w (omega arith) g) (omega arith)
 
 -- and of values that are not negative, not negative
 pub run-above : (f : Format) (k : ℕ) (x : ℕ → Float) (n : ℕ) → ((i : ℕ) → i < n → Upto 1 k (x i)) → ((i : ℕ) → i < n → T (le plusZero (x i)))

@@ -9,9 +9,9 @@ use native.Mathlib.Omega.{arith}
 use mathlib.Core.Bool.{Bool, true, false, not}
 use lib.Dec.{T, isLe, isEq, leb→le, nleb→lt, eqb→eq}
 use lib.Pow.{pow-add, pow-pos, pow-mono}
-use lib.Signed.{ltZ}
-use lib.IntN.{ℤ, pos, natAbs, _+ℤ_, _*ℤ_, +ℤ-assoc, +ℤ-comm, +ℤ-idl, +ℤ-idr}
-use lib.Ieee.{Float, nan, inf, fin, Format, prec, emax, low, up, down, size, nearest, round, add, below, lt}
+use lib.Signed.{ltZ, _≤ℤ_, ltZ-no}
+use lib.IntN.{ℤ, pos, negℤ, natAbs, _+ℤ_, _-ℤ_, _*ℤ_, +ℤ-assoc, +ℤ-comm, +ℤ-idl, +ℤ-idr}
+use lib.Ieee.{Float, nan, inf, fin, Format, prec, emax, low, up, down, size, nearest, round, add, sub, neg, below, lt, le}
 use lib.Ieee.Exact.{HasValue, units-val}
 use lib.Ieee.Digits.{size-le, size-reaches}
 use lib.Ieee.Fits.{two, round-is, down-pos}
@@ -22,11 +22,11 @@ use lib.Ieee.Positive.{num, den}
 use Rattle.ieee.specs.Whole.{plusZero, signed, Whole, whole, run}
 use Rattle.ieee.specs.Size.{Upto, Grid}
 use Rattle.ieee.specs.Units.{Units, units, Near}
-use Rattle.ieee.proofs.Integers.{by-test, abs-signed, abs-add, +ℤ-swap, times-signed, like, sub-down, below-is}
-use Rattle.ieee.proofs.Order.{pp, nn}
+use Rattle.ieee.proofs.Integers.{by-test, abs-signed, neg-signed, abs-add, +ℤ-swap, times-signed, like, sub-down, below-is}
+use Rattle.ieee.proofs.Order.{pp, nn, le→not-lt}
 use Rattle.ieee.proofs.Sums.{left, right, below-scale}
 use Rattle.ieee.proofs.Rounds.{Rounds, add-rounds}
-use Rattle.ieee.proofs.Sizes.{round-size, add-upto, run-upto}
+use Rattle.ieee.proofs.Sizes.{round-size, add-upto, run-upto-from}
 use Rattle.ieee.proofs.Grids.{both, less-part}
 
 -- ---- the nearest whole number is at most a half away
@@ -211,19 +211,33 @@ near-wider d p h = record { off = p .off; is = p .is; small = le-trans (p .small
 pub near-units : {j : ℕ} {x : Float} {z : ℤ} → Units j x z → Near j 0 x z
 near-units {j} {x} {z} u = record { off = pos 0; is = subst (λ (a : ℤ). Units j x a) (sym (+ℤ-idr z)) u; small = le-refl 0 }
 
--- n terms, each within 2 ^ k and at most d units off, from 0.0: each step loses at most 2 ^ h units more
-pub run-near : (f : Format) (k h d : ℕ) (x : ℕ → Float) (z : ℕ → ℤ) (n : ℕ) → ((i : ℕ) → i < n → Upto 1 k (x i))
-    → ((i : ℕ) → i < n → Near (low f) d (x i) (z i))
-    → n < 2 ^ prec f → k + prec f ≤ emax f → n * 2 ^ (k + low f) ≤ 2 ^ (prec f + suc h)
-    → Near (low f) (n * (d + 2 ^ h)) (run (add f) plusZero x n) (run _+ℤ_ (pos 0) z n)
+pub units-zero : {j : ℕ} → Units j plusZero (pos 0)
+units-zero = units false 0 (pos 0) 0 (omega arith)
+
+-- n terms, each within m * 2 ^ k and at most d units off, from what is exactly s units and within c * 2 ^ k: each step loses at most 2 ^ h units more
+pub run-near : (f : Format) (k h c m d : ℕ) {a : Float} {s : ℤ} (x : ℕ → Float) (z : ℕ → ℤ) (n : ℕ) → Upto c k a → Units (low f) a s
+    → ((i : ℕ) → i < n → Upto m k (x i)) → ((i : ℕ) → i < n → Near (low f) d (x i) (z i))
+    → c + n * m < 2 ^ prec f → k + prec f ≤ emax f → (c + n * m) * 2 ^ (k + low f) ≤ 2 ^ (prec f + suc h)
+    → Near (low f) (n * (d + 2 ^ h)) (run (add f) a x n) (run _+ℤ_ s z n)
 unfolding run
-run-near f k h d x z zero u v few room l = record { off = pos 0; is = units false 0 (pos 0) 0 (omega arith); small = omega arith }
-run-near f k h d x z (suc n) u v few room l =
+run-near f k h c m d x z zero b e u v few room l = near-wider (0 * (d + 2 ^ h)) (near-units e) (omega arith)
+run-near f k h c m d x z (suc n) b e u v few room l =
     near-wider (suc n * (d + 2 ^ h))
-    (near-add f h (run-upto f k x n (λ i m. u i (omega arith)) (omega arith) room) (u n (le-refl (suc n)))
-    (run-near f k h d x z n (λ i m. u i (omega arith)) (λ i m. v i (omega arith)) (omega arith) room (omega arith)) (v n (le-refl (suc n)))
+    (near-add f h (run-upto-from f c m k x n b (λ i q. u i (omega arith)) (omega arith) room) (u n (le-refl (suc n)))
+    (run-near f k h c m d x z n b e (λ i q. u i (omega arith)) (λ i q. v i (omega arith)) (omega arith) room (omega arith)) (v n (le-refl (suc n)))
     (omega arith) room (le-trans (omega arith) l))
     (omega arith)
+
+-- ---- a difference
+neg-units : {j : ℕ} {x : Float} {z : ℤ} → Units j x z → Units j (neg x) (negℤ z)
+unfolding neg
+neg-units {j} (units s m e k p) = subst (λ (z : ℤ). Units j (fin (not s) m e) z) (sym (neg-signed s k)) (units (not s) m e k p)
+
+pub sub-near : (f : Format) (h : ℕ) {x y : Float} {a b : ℤ} → Units (low f) x a → Units (low f) y b → natAbs (a -ℤ b) ≤ 2 ^ (prec f + suc h)
+    → T (finite (sub f x y))
+    → Near (low f) (2 ^ h) (sub f x y) (a -ℤ b)
+unfolding sub
+sub-near f h p q small F = add-near f h p (neg-units q) small F
 
 -- ---- the order of floats is that of their units
 pub lt-units : {j : ℕ} {x y : Float} {a b : ℤ} → Units j x a → Units j y b → lt x y ≡ ltZ a b
@@ -235,6 +249,9 @@ lt-units {j} (units s m e k p) (units t n d l q) =
     (mul-right-comm (n * up d) (down e) (2 ^ j) ∙ right (n * up d * 2 ^ j) l (down e) (down d) q)
     ∙ below-scale s t k l c (mul-pos (down-pos e) (down-pos d))
     ∙ below-is s t k l
+
+pub le-units : {j : ℕ} {x y : Float} {a b : ℤ} → Units j x a → Units j y b → T (le x y) → a ≤ℤ b
+le-units {x = x} {y = y} p q h = ltZ-no (subst (λ (t : Bool). T (not t)) (lt-units q p) (le→not-lt x y h))
 
 -- ---- every multiple of 2 ^ -j is some number of units, so every finite value of the format is, with its smallest one for the unit
 abbrev pub inUnits : ℕ → Float → ℤ

@@ -1,5 +1,5 @@
-// A header read. Where 0 is returned, `claims` says of the answer what the entry's own promise does: demand 3, for whole
-// terms from -800 to 800, and what holds of every read that is not refused.
+// A header read. Where 0 is returned, `claims` says of the answer what the entry's own promise does: demand 3 and that no
+// closed word is above the ceiling, for whole terms from -800 to 800, and what holds of every read that is not refused.
 ghost use mathlib.Core.Path.{_≡_};
 ghost use Rattle.trellis.specs.Demand.{Claims};
 ghost use Rattle.header.specs.Read.{areas};
@@ -18,14 +18,15 @@ pub extern "C" fn ion_read_header(
     outcome: &mut u8,
     pass: &mut u8,
     score: &mut f32,
+    ceiling: &mut f32,
 ) -> u32
     ensures face { λ r. ⌜ HeaderFace mode kind (now (terms .entry))
         (areas (now (scores .entry)) (now (next .entry)) (now (start .entry)) (now (decisions .entry)))
         (areas (now (scores .exit)) (now (next .exit)) (now (start .exit)) (now (decisions .exit)))
-        (lent (now (word .entry)) (now (outcome .entry)) (now (pass .entry)) (now (score .entry)))
-        (lent (now (word .exit)) (now (outcome .exit)) (now (pass .exit)) (now (score .exit))) r ⌝ }
+        (lent (now (word .entry)) (now (outcome .entry)) (now (pass .entry)) (now (score .entry)) (now (ceiling .entry)))
+        (lent (now (word .exit)) (now (outcome .exit)) (now (pass .exit)) (now (score .exit)) (now (ceiling .exit))) r ⌝ }
     ensures claims { λ r. ⌜ (r ≡ 0 → Claims mode kind (now (terms .entry))
-        (answerAt (lent (now (word .exit)) (now (outcome .exit)) (now (pass .exit)) (now (score .exit))))) ⌝ }
+        (answerAt (lent (now (word .exit)) (now (outcome .exit)) (now (pass .exit)) (now (score .exit)) (now (ceiling .exit))))) ⌝ }
 {
     header_face::read(
         mode,
@@ -39,5 +40,6 @@ pub extern "C" fn ion_read_header(
         outcome,
         pass,
         score,
+        ceiling,
     )
 }

@@ -1,5 +1,5 @@
 -- One step, state by state, and one pass, step by step: what the areas hold is what the definitions say. Assumes nothing.
-use Prim.Native.Nat.{ℕ, zero, suc, _+_, _*_, _-_, _/_, _%_, _<_}
+use Prim.Native.Nat.{ℕ, _+_, _*_, _-_, _/_, _%_, _<_}
 use mathlib.Core.List.{List}
 use mathlib.Core.Path.{_≡_, refl, sym, ap, ap₂, subst, _∙_}
 use native.Mathlib.Nat.{not-suc-le-zero}
@@ -9,9 +9,7 @@ use borrow.Author.Count.{below-more}
 use lib.Ieee.{Float, lt, add, binary32}
 use lib.ListN.{length}
 use Rattle.util.specs.Choose.{choose}
-use Rattle.trellis.specs.Scale.{Scale, highest}
 use Rattle.trellis.specs.Search.{brings, upper, step, scores, decision}
-use Rattle.trellis.proofs.Best.{highest-up-to}
 use Rattle.pass.specs.Areas.{table, stepsIn, over, flag, packed, Holds, Stepped, Ran, Turned}
 
 -- what is stored for state s, from what its two registers bring
@@ -24,16 +22,6 @@ module _ (metrics : List Float) (f : ℕ → Float) (j s : ℕ) {a b : Float}
   decision-is e = cc
 
 -- ---- a table in place of another that agrees with it at the states
-
--- the lowest of the greatest
-pub highest-same : {A : Type 0} (S : Scale A) (f g : ℕ → A) (k : ℕ) → ((s : ℕ) → s < k → f s ≡ g s) → highest S f k ≡ highest S g k
-unfolding highest
-highest-same S f g zero e = refl
-highest-same S f g (suc k) e =
-    let ih : highest S f k ≡ highest S g k = highest-same S f g k (λ s h. e s (omega arith)) in
-    let last : f k ≡ g k = e k (omega arith) in
-    let best : f (highest S f k) ≡ g (highest S f k) = e (highest S f k) (omega (arith, highest-up-to S f k)) in
-    cc
 
 -- ---- a pass, step by step
 

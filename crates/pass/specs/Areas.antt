@@ -4,9 +4,10 @@ use mathlib.Core.Bool.{Bool}
 use mathlib.Core.List.{List}
 use mathlib.Core.Path.{_≡_}
 use lib.Dec.{eqb}
-use lib.Ieee.{Float, nan}
+use lib.Ieee.{Float, nan, sub, binary32}
 use lib.ListN.{length, getD}
 use Rattle.conv.specs.Label.{labelOf}
+use Rattle.trellis.specs.Scale.{highest}
 use Rattle.trellis.specs.Numbers.{single}
 use Rattle.trellis.specs.Trellis.{Trellis}
 use Rattle.trellis.specs.Search.{upper, step, decision}
@@ -74,3 +75,10 @@ pub record Turned (metrics : List Float) (f : ℕ → Float) (j : ℕ) (scores o
   pub ran : Ran metrics f j scores decisions
   pub source : Holds other (Search.scores (over metrics) f (j - 1))
   pub room : length decisions ≡ stepsIn metrics * 256
+
+-- the gain of state s between two areas of scores, the end's less the start's, and the greatest of all gains
+abbrev pub gainIn : List Float → List Float → ℕ → Float
+gainIn scores start s = sub binary32 (table scores s) (table start s)
+
+abbrev pub topIn : List Float → List Float → Float
+topIn scores start = gainIn scores start (highest single (gainIn scores start) 16384)

@@ -1,5 +1,5 @@
 // One pass of the header's Viterbi search over a tail-biting code, which is wrapped around at most three times (crate
-// search): a step, a pass and its end state over lent areas (fec/conv.rs: `pass`). What the areas hold is document 01's
+// search): a step, a pass, its end state and its top over lent areas (fec/conv.rs: `pass`). What the areas hold is document 01's
 // search, as crate trellis defines it, at f32.
 ghost use mathlib.Core.Path.{_≡_};
 ghost use Prim.Native.Nat.{_*_, _<_, _≤_};
@@ -9,7 +9,7 @@ ghost use Rattle.util.specs.Choose.{choose};
 ghost use Rattle.trellis.specs.Scale.{highest};
 ghost use Rattle.trellis.specs.Numbers.{single};
 ghost use Rattle.trellis.specs.Search.{brings};
-ghost use Rattle.pass.specs.Areas.{table, stepsIn, over, Metrics, Word, Stepped, Turned};
+ghost use Rattle.pass.specs.Areas.{table, stepsIn, over, Metrics, Word, Stepped, Turned, topIn};
 
 // The survivor of a state's two registers, as a decision: 1 for the upper one where its path metric b is strictly
 // greater, else 0 for the lower one with a.
@@ -126,4 +126,19 @@ pub fn end_state(scores: &[f32]) -> usize
         s += 1;
     }
     best
+}
+
+// Inside: the top of a pass (document 02, #106): the greatest of its states' gains, each the end score less the same
+// state's start score.
+pub fn top_gain(scores: &[f32], start: &[f32]) -> f32
+    requires { ⌜ (length (now scores) ≡ 16384) × (length (now start) ≡ 16384) ⌝ }
+    ensures { λ r. ⌜ r ≡ topIn (now (scores .entry)) (now (start .entry)) ⌝ }
+{
+    let mut top = scores[0] - start[0];
+    let mut s = 1usize;
+    while s < 16384 {
+        top = greater(top, scores[s] - start[s]);
+        s += 1;
+    }
+    top
 }

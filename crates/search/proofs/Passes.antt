@@ -8,15 +8,14 @@ use lib.Dec.{eqb, lit≤}
 use lib.Ieee.{Float, sub, binary32}
 use Rattle.trellis.specs.Scale.{Scale, highest}
 use Rattle.trellis.specs.Trellis.{Trellis}
-use Rattle.trellis.specs.Search.{Candidate, traceStart, traceWord, decision, final, endState, startOf, wordOf, closes, scoreOf, candidates}
+use Rattle.trellis.specs.Search.{Candidate, traceStart, traceWord, decision, final, endState, startOf, wordOf, closes, scoreOf, gainOf, topOf, candidates}
 use Rattle.trellis.specs.Numbers.{single}
 use Rattle.trellis.proofs.Paths.{trace-start-cong, trace-word-cong}
-use Rattle.trellis.proofs.Alike.{Follows, Alike, final-alike, decision-alike, end-alike, word-alike, closes-alike, score-alike}
-use Rattle.trellis.proofs.Best.{highest-lt}
-use Rattle.pass.specs.Areas.{table, stepsIn, over, packed, Ran}
+use Rattle.trellis.proofs.Alike.{Follows, Alike, final-alike, decision-alike, end-alike, word-alike, closes-alike, score-alike, top-alike}
+use Rattle.trellis.proofs.Best.{highest-lt, highest-same}
+use Rattle.pass.specs.Areas.{table, stepsIn, over, packed, Ran, gainIn, topIn}
 use Rattle.traceback.specs.Scan.{considered, scanned}
 use Rattle.search.specs.Passed.{Passed}
-use Rattle.pass.proofs.Steps.{highest-same}
 use Rattle.search.specs.declared.Traceback.{Traceback}
 
 -- the simulation law at equality, where no size counts
@@ -50,13 +49,23 @@ module _ (metrics : List Float) (f : ℕ → Float) {scores : List Float} {d : L
       ap₂ (sub binary32) (ran .held .at k h) (e k h) in
       cc (start-same k h, word-same k h)
 
+-- the greatest gain between the areas is the pass's top
+top-same : (metrics start : List Float) {scores : List Float} {d : List ℕ} → Ran metrics (table start) (stepsIn metrics) scores d
+    → topIn scores start ≡ topOf (over metrics) (table start)
+top-same metrics start {scores} ran =
+    let gains : (s : ℕ) → s < 16384 → gainIn scores start s ≡ gainOf (over metrics) (table start) s =
+    λ s h. ap (λ (x : Float). sub binary32 x (table start s)) (ran .held .at s h) in
+    gains _ (highest-lt single (gainIn scores start) 16384 (lit≤ tt))
+    ∙ ap (gainOf (over metrics) (table start)) (highest-same single (gainIn scores start) (gainOf (over metrics) (table start)) 16384 gains)
+
 -- what `found_by` reads off the areas
 pub passed : (metrics : List Float) (start scores : List Float) (d : List ℕ) (end word reached : ℕ)
     → Ran metrics (table start) (stepsIn metrics) scores d → end ≡ highest single (table scores) 16384 → end < 16384
     → word ≡ traceWord 16384 (packed d) (stepsIn metrics) end → reached ≡ traceStart 16384 (packed d) (stepsIn metrics) end
+    → {gain : Float} → gain ≡ topIn scores start
     → Passed metrics (table start) scores d
-    (record { word = word; score = sub binary32 (table scores end) (table start reached); closed = eqb reached end; top = table scores end })
-passed metrics start scores d end word reached ran e below w r =
+    (record { word = word; score = sub binary32 (table scores end) (table start reached); closed = eqb reached end; top = table scores end; gain = gain })
+passed metrics start scores d end word reached ran e below w r g =
     let f = table start in
     let at-end : end ≡ endState (over metrics) f = e ∙ highest-same single (table scores) (final (over metrics) f) 16384 (ran .held .at) in
     let last : table scores end ≡ final (over metrics) f end = ran .held .at end below in
@@ -67,6 +76,7 @@ passed metrics start scores d end word reached ran e below w r =
       score = ap₂ (sub binary32) last (ap f started) ∙ ap (scoreOf (over metrics) f) at-end;
       closed = ap (λ (s : ℕ). eqb s end) started ∙ ap (closes (over metrics) f) at-end;
       top = last ∙ ap (final (over metrics) f) at-end;
+      gain = g ∙ top-same metrics start ran;
     }
 
 -- ---- a pass from a table that agrees with another at the states
@@ -116,4 +126,6 @@ module _ (metrics : List Float) {f g : ℕ → Float} (agree : (s : ℕ) → s <
         score = passed .score ∙ score-same _ below ∙ ap (scoreOf X g) end-same;
         closed = passed .closed ∙ closes-same _ below ∙ ap (closes X g) end-same;
         top = passed .top ∙ final-same _ below ∙ ap (final X g) end-same;
+        gain =
+            passed .gain ∙ top-alike (same single) 16384 (X .steps) 0 refl (lit≤ tt) (X .earn) (X .earn) (λ j r h k. refl) start-alike room;
       }

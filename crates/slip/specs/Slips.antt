@@ -7,6 +7,7 @@ use lib.Dec.{eqb}
 use lib.Ieee.{Float, binary32, ofBits}
 use lib.ListN.{length, getD}
 use Rattle.util.specs.Refusal.{Cause, Outcome, refused, accepted, outcome, afterwards}
+use Rattle.trellis.specs.Answer as Answer
 use Rattle.trellis.specs.Answer.{Answer, scoreIn}
 use Rattle.header.specs.Read.{outcomeIs}
 use Rattle.outcome.specs.Numbers.{outcomeNumber, passNumber}
@@ -22,22 +23,26 @@ use Rattle.slip.specs.declared.SlipRead.the-variants as Read
 use Rattle.slip.specs.declared.FieldsRead.{FieldsRead}
 use Rattle.slip.specs.declared.FieldsRead.the-variants as Found
 
--- the values of the slip that a header's answer makes, as the numbers that it holds
-abbrev pub answerFields : ℕ → ℕ → Answer Float → ℕ → ℕ → Fields
-answerFields mode kind a start segment =
+-- a slip's values as the numbers that it holds
+abbrev pub numbersOf : ℕ → ℕ → ℕ → Answer.Outcome Float → ℕ → ℕ → Fields
+numbersOf mode kind word outcome start segment =
     record {
       mode = mode;
       kind = kind;
-      word = a .word;
-      outcome = outcomeNumber (a .outcome);
-      pass = passNumber (a .outcome);
-      score = scoreIn (a .outcome);
+      word = word;
+      outcome = outcomeNumber outcome;
+      pass = passNumber outcome;
+      score = scoreIn outcome;
       start = start;
       segment = segment;
     }
 
 abbrev pub fieldsOf : Slip → Fields
-fieldsOf s = answerFields (s .mode) (s .kind) (record { word = s .word; outcome = outcomeIs (s .outcome) }) (s .start) (s .segment)
+fieldsOf s = numbersOf (s .mode) (s .kind) (s .word) (outcomeIs (s .outcome)) (s .start) (s .segment)
+
+-- those of the slip that a header's answer makes: a slip holds no ceiling
+abbrev pub answerFields : ℕ → ℕ → Answer Float → ℕ → ℕ → Fields
+answerFields mode kind a start segment = numbersOf mode kind (a .word) (a .outcome) start segment
 
 -- ---- the writer
 

@@ -1,5 +1,6 @@
 -- SIMULATION. Where numbers x stand for numbers z (`Follows`), the search over the x and the search over the z take the same decisions,
--- end in the same states and find the same words, and their scores stand for one another, as long as sizes stay in room. Assumes nothing.
+-- end in the same states and find the same words, and their scores and ceilings stand for one another, as long as sizes stay in room.
+-- Assumes nothing.
 use Prim.Native.Nat.{ℕ, zero, suc, _+_, _*_, _/_, _%_, _≤_, _<_}
 use mathlib.Core.Path.{_≡_, refl, ap, ap₂, _∙_, subst}
 use mathlib.Core.Bool.{Bool, true, false, _&&_}
@@ -12,7 +13,8 @@ use Rattle.ieee.specs.Whole.{run}
 use Rattle.trellis.specs.Scale.{Scale, sum, highest}
 use Rattle.trellis.specs.Trellis.{Trellis}
 use Rattle.trellis.specs.Search.{How, closing, Candidate, Found, brings, upper, scores, decision, final, endState, startOf, wordOf}
-use Rattle.trellis.specs.Search.{closes, scoreOf, gainOf, beats, candidates, lowered, begin, closesIn, last, best, wordIn, settled, search}
+use Rattle.trellis.specs.Search.{closes, scoreOf, gainOf, topOf, beats, candidates, lowered, begin, closesIn, last, ceilingTo, ceiling, best}
+use Rattle.trellis.specs.Search.{wordIn, settled, search}
 use Rattle.trellis.proofs.Paths.{trace-start-cong, trace-word-cong, trace-start-lt}
 use Rattle.trellis.proofs.Best.{highest-up-to, highest-lt}
 use Rattle.trellis.proofs.Handed.{last-most}
@@ -154,6 +156,11 @@ module _ {A B : Type 0} {S : Scale A} {Z : Scale B} {R W : ℕ → A → B → T
     pub gain-alike : (s : ℕ) → s < N → R cap (gainOf X f s) (gainOf Y g s)
     gain-alike s l = F .wider {a = b + n * M + b} (omega arith) (F .sub (final-alike .at s l) (start .at s l) (omega arith))
 
+    pub top-alike : R cap (topOf X f) (topOf Y g)
+    top-alike =
+        subst (λ (s : ℕ). R cap (topOf X f) (gainOf Y g s)) (highest-alike (gainOf X f) (gainOf Y g) (record { at = gain-alike }) N (omega arith))
+        (gain-alike _ (highest-lt S (gainOf X f) N some-state))
+
     pub closes-alike : (s : ℕ) → s < N → closes X f s ≡ closes Y g s
     closes-alike s l = ap (λ (p : ℕ). eqb p s) (start-alike s l)
 
@@ -202,6 +209,14 @@ module _ {A B : Type 0} {S : Scale A} {Z : Scale B} {R W : ℕ → A → B → T
     unfolding last
     last-alike = ap₂ (λ (c d : Bool). choose c 0 (choose d 1 2)) (closesIn-alike 0 (omega arith)) (closesIn-alike 1 (omega arith))
 
+    ceilingTo-alike : (k : ℕ) → k ≤ 2 → R cap (ceilingTo X k) (ceilingTo Y k)
+    unfolding ceilingTo
+    ceilingTo-alike zero h = top-alike (begin-alike zero h) (pass-room zero h)
+    ceilingTo-alike (suc k) h =
+        let low = ceilingTo-alike k (omega arith) in
+        let top = top-alike (begin-alike (suc k) h) (pass-room (suc k) h) in
+        choose-alike (R cap) _ _ (F .gt low top) top low
+
     best-alike : (k : ℕ) → k ≤ 3 → SameBest (R cap) (best X k) (best Y k)
     unfolding best
     best-alike zero h = neither
@@ -248,3 +263,7 @@ module _ {A B : Type 0} {S : Scale A} {Z : Scale B} {R W : ℕ → A → B → T
         choose-alike (Same (R cap)) _ _ (closesIn-alike (last X) (last-most X) ∙ ap (closesIn Y) last-alike)
         (subst (λ (k : ℕ). Same (R cap) (wordIn X (closing (suc (last X))) (last X)) (wordIn Y (closing (suc k)) k)) last-alike w)
         (settled-alike (best-alike 3 (omega arith)))
+
+    pub ceiling-alike : R cap (ceiling X) (ceiling Y)
+    unfolding ceiling
+    ceiling-alike = subst (λ (k : ℕ). R cap (ceiling X) (ceilingTo Y k)) last-alike (ceilingTo-alike (last X) (last-most X))

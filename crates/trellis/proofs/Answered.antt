@@ -1,7 +1,7 @@
--- The score of every answer that is not refused is a finite f32. It is the simulation of the search by itself, with the score's size counted in
--- units of 2 ^ 20, of which a term is at most one; the terms themselves need not be f32 values, since every sum is rounded to one. (Where they
--- are, no score is -0.0 either: Finite.) Assumes nothing.
-use Prim.Native.Nat.{ℕ, _*_, _^_, _≤_}
+-- The score of every answer that is not refused is a finite f32, and so is every score and every gain of the passes. It is the simulation of the
+-- search by itself, with the score's size counted in units of 2 ^ 20, of which a term is at most one; the terms themselves need not be f32
+-- values, since every sum is rounded to one. (Where they are, no score is -0.0 either: Finite.) Assumes nothing.
+use Prim.Native.Nat.{ℕ, _*_, _^_, _≤_, _<_}
 use mathlib.Core.Path.{_≡_, refl, ap₂}
 use mathlib.Core.Bool.{false}
 use mathlib.Core.List.{List}
@@ -17,15 +17,16 @@ use Rattle.ieee.specs.Size.{Upto}
 use Rattle.ieee.proofs.Sizes.{upto-zero, upto-wider, add-upto, sub-upto}
 use Rattle.frame.specs.Format.{headerBits}
 use Rattle.model.specs.Range.{someOut}
+use Rattle.trellis.specs.Trellis.{Trellis}
 use Rattle.trellis.specs.Search.{search}
 use Rattle.trellis.specs.Numbers.{single}
 use Rattle.trellis.specs.Terms.{header, lent}
-use Rattle.trellis.proofs.Alike.{Follows}
+use Rattle.trellis.proofs.Alike.{Follows, SamePass}
 use Rattle.trellis.proofs.AnyTerms.{term-upto}
-use Rattle.trellis.proofs.Metric.{header-alike}
+use Rattle.trellis.proofs.Metric.{header-pass, header-alike}
 
 -- a score, and a term, stand for themselves
-record Held (q : ℕ) (x y : Float) : Type 0 where
+pub record Held (q : ℕ) (x y : Float) : Type 0 where
   pub same : x ≡ y
   pub fits : T (fits binary32 x)
   pub upto : Upto q 20 x
@@ -56,9 +57,16 @@ follows-self =
       gt = λ h k. ap₂ (λ (a b : Float). Ieee.lt b a) (h .same) (k .same);
     }
 
-pub score-held : (mode kind : ℕ) (terms : List Float) → length terms ≡ 260 * headerBits kind → someOut terms ≡ false
-    → T (fits binary32 (search (header single mode kind (lent terms)) .score)) × T (finite (search (header single mode kind (lent terms)) .score))
-score-held mode kind terms all in-range =
-    let score = header-alike follows-self mode kind 1 (lent terms) (lent terms)
-    (λ i l. record { same = refl; upto = term-upto mode kind terms all in-range i l }) (lit≤ tt) .score in
-    (score .fits, score .upto .finite)
+module _ (mode kind : ℕ) (terms : List Float) (all : length terms ≡ 260 * headerBits kind) (in-range : someOut terms ≡ false) where
+  abbrev X : Trellis Float
+  X = header single mode kind (lent terms)
+
+  term : (i : ℕ) → i < 260 * headerBits kind → Term 1 (lent terms i) (lent terms i)
+  term i l = record { same = refl; upto = term-upto mode kind terms all in-range i l }
+
+  -- of pass k: each state's score after any step and its gain, none above 4,480 · 2^20
+  pub pass-held : (k : ℕ) → k ≤ 2 → SamePass (Held 4480) X X k
+  pass-held = header-pass follows-self mode kind 1 (lent terms) (lent terms) term (lit≤ tt)
+
+  pub score-held : T (fits binary32 (search X .score)) × T (finite (search X .score))
+  score-held = let score = header-alike follows-self mode kind 1 (lent terms) (lent terms) term (lit≤ tt) .score in (score .fits, score .upto .finite)

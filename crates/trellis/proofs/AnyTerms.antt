@@ -28,14 +28,16 @@ use Rattle.trellis.specs.Terms.{header, lent, documentSearch}
 use Rattle.trellis.specs.Demand.{AnyTerms}
 use Rattle.trellis.proofs.Best.{Ranked}
 use Rattle.trellis.proofs.Handed.{search-short}
+use Rattle.trellis.proofs.Ceiling.{first-ceiling}
 use Rattle.trellis.proofs.Metric.{step-within}
 use Rattle.trellis.proofs.Sent.{sent-in-steps}
 use Rattle.trellis.proofs.Demand.{exact-first, optimal, unique, score-is, first-is, best-word, header-long}
 
--- what j steps can earn: a value of f32 of at most 5 j terms, each within 2^20
-record Earned (j : ℕ) (x : Float) : Type 0 where
-  held : T (fits binary32 x)
-  upto : Upto (5 * j) 20 x
+-- what a score can be after j steps of any pass: a value of f32 of at most 4480 terms and 5 more a step, each within 2^20 (no start score of the
+-- three passes is above 4480 such: crate trellis, Answered)
+pub record Earned (j : ℕ) (x : Float) : Type 0 where
+  pub held : T (fits binary32 x)
+  pub upto : Upto (4480 + 5 * j) 20 x
 
 module _ (mode kind : ℕ) (terms : List Float) (all : length terms ≡ 260 * headerBits kind) (in-range : someOut terms ≡ false) where
   abbrev earn : ℕ → ℕ → Float
@@ -53,7 +55,7 @@ module _ (mode kind : ℕ) (terms : List Float) (all : length terms ≡ 260 * he
   unfolding metricOf
   earn-upto j r h = run-upto binary32 20 _ 5 (λ i l. term-upto _ (step-within mode kind j r i h l)) (lit< tt) (lit≤ tt)
 
-  ranked : Ranked (header single mode kind (lent terms)) (λ a b. T (le a b)) Earned
+  pub ranked : Ranked (header single mode kind (lent terms)) (λ a b. T (le a b)) Earned
   unfolding fits
   ranked =
       record {
@@ -62,13 +64,13 @@ module _ (mode kind : ℕ) (terms : List Float) (all : length terms ≡ 260 * he
         gt-le = λ {a} {b} t. lt→le b a t;
         not-gt-le = λ {j} {a} {b} o p t. not-lt→le b a (finite-not-nan b (p .upto .finite)) (finite-not-nan a (o .upto .finite)) t;
         gt-not-le = λ {a} {b} t k. T-not (le a b) (lt→not-le b a t) k;
-        nil-ok = record { held = tt; upto = upto-zero };
+        nil-ok = record { held = tt; upto = upto-wider (4480 + 5 * 0) 20 (upto-zero {k = 20}) (lit≤ tt) };
         step-ok = λ {j} {r} {a} k l o.
-            let more : 5 * j + 5 ≤ 5 * suc j = omega arith in
+            let more : 4480 + 5 * j + 5 ≤ 4480 + 5 * suc j = omega arith in
             record {
               held = add-fits binary32 a (earn j r);
               upto =
-                  upto-wider (5 * suc j) 20 (add-upto binary32 (o .upto) (earn-upto j r k) (omega (arith, header-most kind)) (lit≤ tt))
+                  upto-wider (4480 + 5 * suc j) 20 (add-upto binary32 (o .upto) (earn-upto j r k) (omega (arith, header-most kind)) (lit≤ tt))
                   (mul-le-mul-right (2 ^ 20) more);
             };
         step-le = λ {j} {r} {a} {b} k l o p q.
@@ -93,4 +95,6 @@ module _ (mode kind : ℕ) (terms : List Float) (all : length terms ≡ 260 * he
             (λ w _ beats.
             let u = unique single 14 (lit< tt) (headerBits kind) (header-long kind) earn ranked w beats in
             (u .0, (F .score, ap (λ (i : How). outcomeOf i (F .score)) (u .1))));
+        at-ceiling = λ o.
+            first-ceiling (header single mode kind (lent terms)) ranked (first-is (F .how) (F .score) o) ∙ sym (score-is (F .how) (F .score));
       }

@@ -49,6 +49,16 @@ unfolding highest
 highest-lt S f zero h = absurd (omega arith)
 highest-lt S f (suc k) h = omega (arith, choose-le (S .gt (f k) (f (highest S f k))) (highest-up-to S f k))
 
+-- a function in place of another that agrees with it there
+pub highest-same : {A : Type 0} (S : Scale A) (f g : ℕ → A) (k : ℕ) → ((s : ℕ) → s < k → f s ≡ g s) → highest S f k ≡ highest S g k
+unfolding highest
+highest-same S f g zero e = refl
+highest-same S f g (suc k) e =
+    let ih : highest S f k ≡ highest S g k = highest-same S f g k (λ s h. e s (omega arith)) in
+    let last : f k ≡ g k = e k (omega arith) in
+    let best : f (highest S f k) ≡ g (highest S f k) = e (highest S f k) (omega (arith, highest-up-to S f k)) in
+    cc
+
 module _ {A : Type 0} {X : Trellis A} {le : A → A → Type 0} {ok : ℕ → A → Type 0} (L : Ranked X le ok) where
   -- of two things with a score, the one that the test takes scores at least as much as each
   choice-left : {j : ℕ} {Y : Type 0} (f : Y → A) (x y : Y) → ok j (f x) → (t : Bool) → X .scale .gt (f y) (f x) ≡ t → le (f x) (f (choose t y x))
@@ -191,3 +201,11 @@ module _ {A : Type 0} (X : Trellis A) {le : A → A → Type 0} {ok : ℕ → A 
         L .le-trans (no-walk-above h w (X .steps) (omega arith))
         (highest-le L (final X f) (X .states) (record { at = λ s k. scores-ok (X .steps) (omega arith) k })
         (state-below (bit w) (bit-lt w) (X .states) p (X .steps) h))
+
+  -- a walk counted on from a greater score scores no less
+  pub along-le : {a b : A} → ok 0 a → ok 0 b → le a b → {p : ℕ} → p < X .states → (w j : ℕ) → j ≤ X .steps → le (along X a p w j) (along X b p w j)
+  unfolding run
+  along-le oa ob h hp w zero l = h
+  along-le {a} {b} oa ob h {p} hp w (suc j) l =
+      L .step-le l (omega (arith, state-below (bit w) (bit-lt w) (X .states) p j hp, bit-lt w j)) (along-ok (λ _. a) (λ s k. oa) hp w j (omega arith))
+      (along-ok (λ _. b) (λ s k. ob) hp w j (omega arith)) (along-le oa ob h hp w j (omega arith))

@@ -1,5 +1,5 @@
--- DEMAND 3 of document 01's search: the theorems on what a search hands out, at the whole numbers, carried to f32 by the simulation.
--- Assumes nothing.
+-- DEMAND 3 of document 01's search, and its ceiling: the theorems on what a search hands out, at the whole numbers, carried to f32 by the
+-- simulation. Assumes nothing.
 use Prim.Native.Nat.{ℕ, zero, suc, _*_, _%_, _^_, _≤_, _<_}
 use mathlib.Core.Path.{_≡_, refl, sym, ap, _∙_, subst}
 use mathlib.Core.List.{List}
@@ -10,25 +10,27 @@ use lib.Pow.{pow-pos}
 use lib.IntN.{ℤ}
 use lib.Signed.{ltZ, _≤ℤ_}
 use lib.Ieee.{Float, lt}
+use Rattle.ieee.specs.Whole.{Whole}
 use Rattle.frame.specs.Format.{headerBits}
 use Rattle.frame.proofs.Air.{header-least}
 use Rattle.conv.specs.Encoder.{made, bit}
 use Rattle.conv.proofs.Closed.{made-below, ends-made, closed}
 use Rattle.trellis.specs.Scale.{Scale}
 use Rattle.trellis.specs.Trellis.{Trellis, walkScore, closedScore}
-use Rattle.trellis.specs.Search.{How, closing, candidate, unclosed, Found, search}
+use Rattle.trellis.specs.Search.{How, closing, candidate, unclosed, Found, search, ceiling}
 use Rattle.trellis.specs.Answer.{Answer, Outcome, Sure, Kept, Open, outcomeOf, scoreIn, HandedOutAsClosed, OutInFirstPass}
 use Rattle.trellis.specs.Numbers.{single, whole}
 use Rattle.trellis.specs.Terms.{header, lent, documentSearch, WholeTerms}
 use Rattle.trellis.specs.Demand as Demand
-use Rattle.trellis.specs.Demand.{walk, Another, BestWord, Demand3}
+use Rattle.trellis.specs.Demand.{walk, Another, BestWord, NoneAbove, Demand3}
 use Rattle.trellis.proofs.Paths.{bit-lt}
 use Rattle.trellis.proofs.Best.{Ranked}
 use Rattle.trellis.proofs.Handed.{Closing, Group, search-exact, first-exact, search-optimal, search-unique}
 use Rattle.trellis.proofs.Integers.{group, ranked}
 use Rattle.trellis.proofs.Alike.{Same, SamePass}
 use Rattle.trellis.proofs.Exact.{Stands, Term, follows-whole}
-use Rattle.trellis.proofs.Metric.{header-pass, header-alike, walk-alike}
+use Rattle.trellis.proofs.Metric.{header-pass, header-alike, header-ceiling, walk-alike}
+use Rattle.trellis.proofs.Ceiling.{none-above}
 use Rattle.trellis.proofs.Sent.{sent-earns}
 
 -- ---- the search over any kind of score, with 2 ^ K states and K steps or more
@@ -152,4 +154,13 @@ module _ (mode kind : ℕ) (terms : List Float) (ints : ℕ → ℤ) (all : leng
             (λ w _ beats.
             let u = unique whole 14 (lit< tt) (headerBits kind) (header-long kind) earnZ ranked w (λ p v hp hv other. beats p v hp hv other .lt) in
             (same .word ∙ u .0, (F .score, ap (λ (i : How). outcomeOf i (F .score)) (same .how ∙ u .1))));
+      }
+
+  -- and no closed word is above the ceiling, which is that of the search over the whole numbers
+  pub bounded : NoneAbove Whole _≤ℤ_ mode kind ints (documentSearch mode kind terms)
+  bounded =
+      record {
+        bound = ceiling (header whole mode kind ints);
+        is = header-ceiling (follows-whole 3584000 (lit≤ tt)) mode kind 800 (lent terms) ints stand (lit≤ tt) .whole;
+        none-above = λ w h. none-above 14 (headerBits kind) (header-long kind) earnZ w;
       }

@@ -29,7 +29,8 @@ use Rattle.util.proofs.Fill.{tabled-length, tabled-at}
 use Rattle.conv.specs.Encoder.{state, walkRegister, made, bit}
 use Rattle.trellis.specs.Trellis.{Trellis, walkScore, closedScore}
 use Rattle.trellis.specs.Scale.{Scale, highest}
-use Rattle.trellis.specs.Search.{closing, traceStart, traceWord, beats, scores, decision, candidates, begin, closesIn, last, best, settled, search}
+use Rattle.trellis.specs.Search.{closing, traceStart, traceWord, beats, scores, decision, candidates, begin, closesIn, last, ceilingTo, ceiling, best}
+use Rattle.trellis.specs.Search.{settled, search}
 use Rattle.trellis.specs.Numbers.{single, whole}
 use Rattle.trellis.specs.Terms.{lent, WholeTerms, UnitTerms}
 use Rattle.trellis.proofs.Integers.{ranked}
@@ -138,7 +139,12 @@ pub rounded-out : search (rounding single (fin false 1 (pos 20)) (fin false 1 (n
 unfolding rounding search settled best last closesIn begin candidates beats traceStart traceWord highest scores decision lt add sub
 rounded-out = refl
 
--- and the exact score of the word 3, in units of 2^-5, is above its own
+-- with 2^20 for its ceiling
+pub rounded-ceiling : ceiling (rounding single (fin false 1 (pos 20)) (fin false 1 (negsuc 4))) ≡ fin false 1 (pos 20)
+unfolding rounding ceiling ceilingTo last closesIn begin traceStart highest scores decision lt add sub
+rounded-ceiling = refl
+
+-- and the exact score of the word 3, in units of 2^-5, is above its own, and so above that ceiling
 pub rival-above : closedScore (rounding whole (pos (2 ^ 25)) (pos 1)) 2 0 <ℤ closedScore (rounding whole (pos (2 ^ 25)) (pos 1)) 2 3
 unfolding rounding run state made
 rival-above = record { lt = tt }

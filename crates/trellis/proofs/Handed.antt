@@ -51,11 +51,11 @@ module _ {A : Type 0} (X : Trellis A) where
 
   -- ---- a word of the first pass
 
-  first-last : T (closesIn X 0) → last X ≡ 0
+  pub first-last : T (closesIn X 0) → last X ≡ 0
   unfolding last
   first-last t = ap (λ (c : Bool). choose c 0 (choose (closesIn X 1) 1 2)) (is-true (closesIn X 0) t)
 
-  first-out : T (closesIn X 0) → search X ≡ wordIn X (closing 1) 0
+  pub first-out : T (closesIn X 0) → search X ≡ wordIn X (closing 1) 0
   unfolding search
   first-out t =
       ap (λ (k : ℕ). choose (closesIn X k) (wordIn X (closing (suc k)) k) (settled X (best X 3))) (first-last t)
@@ -68,7 +68,7 @@ module _ {A : Type 0} (X : Trellis A) where
   not-closing (some c) p e = let z : _≡_ {A = ℕ} 0 1 = cc in omega arith
 
   -- pass 1 is said of the first pass alone
-  first-closes : search X .how ≡ closing 1 → T (closesIn X 0)
+  pub first-closes : search X .how ≡ closing 1 → T (closesIn X 0)
   unfolding search last
   first-closes e = which (closesIn X 0) (closesIn X 1) (at-zero (closesIn X (last X)) e)
     where
@@ -154,21 +154,22 @@ module _ {A : Type 0} (X : Trellis A) where
 
 -- ---- any pass
 
-module _ {A : Type 0} (X : Trellis A) (G : Group (X .scale)) (even : X .states % 2 ≡ 0) (some-state : 0 < X .states) where
+module _ {A : Type 0} (X : Trellis A) (G : Group (X .scale)) where
   -- a walk's score counted on from a is a with the walk's score added
-  along-from : (a : A) (p w j : ℕ) → along X a p w j ≡ X .scale .add a (along X (X .scale .nil) p w j)
+  pub along-from : (a : A) (p w j : ℕ) → along X a p w j ≡ X .scale .add a (along X (X .scale .nil) p w j)
   unfolding run
   along-from a p w zero = sym (G .add-nil a)
   along-from a p w (suc j) =
       ap (λ (x : A). X .scale .add x (X .earn j (walkRegister (X .states) p (bit w) j))) (along-from a p w j) ∙ G .add-assoc a _ _
 
+module _ {A : Type 0} (X : Trellis A) (G : Group (X .scale)) (even : X .states % 2 ≡ 0) (some-state : 0 < X .states) where
   -- EXACT, of one traceback: its word's score is what its walk earns
   pub gained : (f : ℕ → A) {s : ℕ} → s < X .states → walkScore X (startOf X f s) (wordOf X f s) ≡ scoreOf X f s
   gained f {s} h =
       let p = startOf X f s in
       let w = wordOf X f s in
       sym (G .add-sub (f p) (walkScore X p w))
-      ∙ ap (λ (x : A). X .scale .sub x (f p)) (sym (along-from (f p) p w (X .steps)) ∙ attained X even f (X .steps) h)
+      ∙ ap (λ (x : A). X .scale .sub x (f p)) (sym (along-from X G (f p) p w (X .steps)) ∙ attained X even f (X .steps) h)
 
   -- a candidate's gain is its word's score
   gain-closing : (f : ℕ → A) {s : ℕ} → s < X .states → T (closes X f s) → Closing X (wordOf X f s) (gainOf X f s)

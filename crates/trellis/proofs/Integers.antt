@@ -22,7 +22,7 @@ trans′ (negsuc a) (pos b) (negsuc c) h k = absurd k
 trans′ (negsuc a) (negsuc b) (pos c) h k = tt
 trans′ (negsuc a) (negsuc b) (negsuc c) h k = le→leb c a (le-trans (leb→le c b k) (leb→le b a h))
 
-≤ℤ-trans : {a b c : ℤ} → a ≤ℤ b → b ≤ℤ c → a ≤ℤ c
+pub ≤ℤ-trans : {a b c : ℤ} → a ≤ℤ b → b ≤ℤ c → a ≤ℤ c
 ≤ℤ-trans {a} {b} {c} h k = record { le = trans′ a b c (h .le) (k .le) }
 
 less′ : (a b : ℤ) → T (ltZ a b) → T (leZ a b)
@@ -66,27 +66,31 @@ le-more : (a : ℤ) (k : ℕ) → a ≤ℤ (a +ℤ pos k)
 le-more a zero = rw (+ℤ-idr a) (≤ℤ-refl a)
 le-more a (suc k) = rw (+ℤ-sucℤ a (pos k)) (≤ℤ-trans (le-more a k) (record { le = le-suc (a +ℤ pos k) }))
 
-≤ℤ-add : {a b : ℤ} (c : ℤ) → a ≤ℤ b → (a +ℤ c) ≤ℤ (b +ℤ c)
+pub ≤ℤ-add : {a b : ℤ} (c : ℤ) → a ≤ℤ b → (a +ℤ c) ≤ℤ (b +ℤ c)
 ≤ℤ-add {a} {b} c h =
     let (k, e) = gap a b (h .le) in
     subst (λ (x : ℤ). (a +ℤ c) ≤ℤ x)
     (+ℤ-assoc a c (pos k) ∙ ap (λ (x : ℤ). a +ℤ x) (+ℤ-comm c (pos k)) ∙ sym (+ℤ-assoc a (pos k) c) ∙ ap (λ (x : ℤ). x +ℤ c) e)
     (le-more (a +ℤ c) k)
 
--- from two sums, what is added being at most n large
+-- from two sums, what is added being at most m and n large
 ≤ℤ-size : (z : ℤ) (n : ℕ) → natAbs z ≤ n → z ≤ℤ pos n
 ≤ℤ-size (pos a) n h = record { le = le→leb a n h }
 ≤ℤ-size (negsuc a) n h = record { le = tt }
 
-pub ≤ℤ-apart : (a b c d : ℤ) (n : ℕ) → (a +ℤ c) ≤ℤ (b +ℤ d) → natAbs c ≤ n → natAbs d ≤ n → a ≤ℤ (b +ℤ pos (n + n))
-≤ℤ-apart a b c d n h k l =
+pub ≤ℤ-apart : (a b c d : ℤ) (m n : ℕ) → (a +ℤ c) ≤ℤ (b +ℤ d) → natAbs c ≤ m → natAbs d ≤ n → a ≤ℤ (b +ℤ pos (m + n))
+≤ℤ-apart a b c d m n h k l =
     let e : a ≤ℤ (b +ℤ (d -ℤ c)) = subst₂ _≤ℤ_ (+ℤ-negℤ-cancel a c) (+ℤ-assoc b d (negℤ c)) (≤ℤ-add (negℤ c) h) in
-    let f : (d -ℤ c) ≤ℤ pos (n + n) = ≤ℤ-size (d -ℤ c) (n + n) (le-trans (abs-sub d c) (omega arith)) in
-    ≤ℤ-trans e (subst₂ _≤ℤ_ (+ℤ-comm (d -ℤ c) b) (+ℤ-comm (pos (n + n)) b) (≤ℤ-add b f))
+    let f : (d -ℤ c) ≤ℤ pos (m + n) = ≤ℤ-size (d -ℤ c) (m + n) (le-trans (abs-sub d c) (omega arith)) in
+    ≤ℤ-trans e (subst₂ _≤ℤ_ (+ℤ-comm (d -ℤ c) b) (+ℤ-comm (pos (m + n)) b) (≤ℤ-add b f))
 
 -- taking away what was added
 +ℤ-take : (a b : ℤ) → (a +ℤ b) -ℤ a ≡ b
 +ℤ-take a b = ap (λ (x : ℤ). x -ℤ a) (+ℤ-comm a b) ∙ +ℤ-negℤ-cancel b a
+
+-- what is added to a comes to at most b, but for c; then it is at most what b has above a
+pub ≤ℤ-less : (a b c x : ℤ) → (a +ℤ x +ℤ c) ≤ℤ b → (x +ℤ c) ≤ℤ (b -ℤ a)
+≤ℤ-less a b c x h = subst (λ (z : ℤ). z ≤ℤ (b -ℤ a)) (ap (λ (z : ℤ). z -ℤ a) (+ℤ-assoc a x c) ∙ +ℤ-take a (x +ℤ c)) (≤ℤ-add (negℤ a) h)
 
 pub group : Group whole
 group = record { add-nil = +ℤ-idr; add-assoc = +ℤ-assoc; add-sub = +ℤ-take }

@@ -1,10 +1,11 @@
--- Laws of this crate's definitions, for its own proofs and its callers'. A pass from any start scores: Best. What a search hands out: Handed.
+-- Laws of this crate's definitions, for its own proofs and its callers'. A pass from any start scores: Best. What a search hands out: Handed, Ceiling.
 -- The simulation of one search by another: Alike, and from terms on: Metric. f32 for the whole numbers: Exact. Demand 3: Demand, Sent. All accepted
--- terms: Finite, AnyTerms, Answered, NearExact, Scaled. That no premise is empty: Runs, Guards, Clean.
+-- terms: Finite, AnyTerms, Answered, Rounding, NearCeiling, NearExact, Scaled. That no premise is empty: Runs, Guards, Clean.
 pub mod Paths
 pub mod Best
 pub mod Handed
 pub mod Integers
+pub mod Ceiling
 pub mod Alike
 pub mod Metric
 pub mod Exact
@@ -13,6 +14,8 @@ pub mod Sent
 pub mod Finite
 pub mod AnyTerms
 pub mod Answered
+pub mod Rounding
+pub mod NearCeiling
 pub mod NearExact
 pub mod Scaled
 pub mod Runs

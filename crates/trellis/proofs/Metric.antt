@@ -13,9 +13,9 @@ use Rattle.model.specs.Metric.{termAt, metricOf}
 use Rattle.model.proofs.Terms.{place-in-row, term-in-symbol}
 use Rattle.trellis.specs.Scale.{Scale}
 use Rattle.trellis.specs.Trellis.{walkScore}
-use Rattle.trellis.specs.Search.{search}
+use Rattle.trellis.specs.Search.{search, ceiling}
 use Rattle.trellis.specs.Terms.{placeIn, metric, header}
-use Rattle.trellis.proofs.Alike.{Follows, Same, SamePass, reach, sum-alike, pass-alike, search-alike}
+use Rattle.trellis.proofs.Alike.{Follows, Same, SamePass, reach, sum-alike, pass-alike, search-alike, ceiling-alike}
 
 -- the five terms of a metric are among the 260 of its symbol
 pub term-within : (bins symbol v j n : ℕ) → 0 < bins → bins ≤ 48 → symbol < n → j < 5 → termAt symbol j (placeIn bins symbol v + j - 2) < 260 * n
@@ -62,6 +62,9 @@ module _ {A B : Type 0} {S : Scale A} {Z : Scale B} {R W : ℕ → A → B → T
 
   pub header-alike : Same (R cap) (search (header S mode kind t)) (search (header Z mode kind u))
   header-alike = search-alike F 16384 (headerBits kind) (5 * M) refl (lit< tt) _ _ (λ j r h l. earn-alike j r h) header-room
+
+  pub header-ceiling : R cap (ceiling (header S mode kind t)) (ceiling (header Z mode kind u))
+  header-ceiling = ceiling-alike F 16384 (headerBits kind) (5 * M) refl (lit< tt) _ _ (λ j r h l. earn-alike j r h) header-room
 
   -- and a walk earns the same, added from the left
   pub walk-alike : (p w : ℕ) → R cap (walkScore (header S mode kind t) p w) (walkScore (header Z mode kind u) p w)

@@ -1,15 +1,17 @@
--- The search worked out on a small code of 4 states and 2 steps: each way a word can come out, as the Rust's decode_tb gives it.
+-- The search worked out on a small code of 4 states and 2 steps: each way a word can come out, as the Rust's decode_tb gives it, and ceilings.
 -- Assumes nothing.
 use Prim.Native.Nat.{ℕ}
 use mathlib.Core.Path.{_≡_, refl}
 use mathlib.Core.List.{List, [], _∷_}
 use lib.ListN.{getD}
+use mathlib.Core.Bool.{true}
 use lib.IntN.{ℤ, pos}
+use lib.Ieee.{Float, binary32, ofInt, add, sub, lt}
 use Rattle.trellis.specs.Scale.{highest}
 use Rattle.trellis.specs.Trellis.{Trellis}
-use Rattle.trellis.specs.Search.{closing, candidate, unclosed, traceStart, traceWord, beats, scores}
-use Rattle.trellis.specs.Search.{decision, candidates, begin, closesIn, last, best, settled, search}
-use Rattle.trellis.specs.Numbers.{whole}
+use Rattle.trellis.specs.Search.{closing, candidate, unclosed, topOf, traceStart, traceWord, beats, scores}
+use Rattle.trellis.specs.Search.{decision, candidates, begin, closesIn, last, ceilingTo, ceiling, best, settled, search}
+use Rattle.trellis.specs.Numbers.{single, whole}
 
 -- what registers 0 to 7 earn at step 0, and at step 1
 small : List ℕ → List ℕ → Trellis ℤ
@@ -47,3 +49,43 @@ kept-from-second = refl
 left-open : search (small (0 ∷ 2 ∷ 1 ∷ 1 ∷ 0 ∷ 0 ∷ 0 ∷ 0 ∷ []) (0 ∷ 1 ∷ 1 ∷ 0 ∷ 1 ∷ 0 ∷ 1 ∷ 0 ∷ [])) ≡ record { how = unclosed; word = 0; score = pos 2 }
 unfolding small search settled best last closesIn begin candidates beats traceStart traceWord highest scores decision
 left-open = refl
+
+-- ---- ceilings
+
+-- the tops of its two passes are 3 and 2
+second-ceiling : ceiling (small (1 ∷ 2 ∷ 1 ∷ 0 ∷ 1 ∷ 0 ∷ 0 ∷ 0 ∷ []) (0 ∷ 0 ∷ 0 ∷ 1 ∷ 0 ∷ 1 ∷ 0 ∷ 0 ∷ [])) ≡ pos 2
+unfolding small ceiling ceilingTo last closesIn begin traceStart highest scores decision
+second-ceiling = refl
+
+-- tops of 3 and 2; out in the second pass with score 1, and no closed word scores more: the ceiling need not be reached
+unreached : search (small (1 ∷ 0 ∷ 0 ∷ 0 ∷ 0 ∷ 0 ∷ 1 ∷ 1 ∷ []) (0 ∷ 0 ∷ 1 ∷ 0 ∷ 0 ∷ 0 ∷ 2 ∷ 0 ∷ [])) ≡ record { how = closing 2; word = 1; score = pos 1 }
+unfolding small search settled best last closesIn begin candidates beats traceStart traceWord highest scores decision
+unreached = refl
+
+unreached-ceiling : ceiling (small (1 ∷ 0 ∷ 0 ∷ 0 ∷ 0 ∷ 0 ∷ 1 ∷ 1 ∷ []) (0 ∷ 0 ∷ 1 ∷ 0 ∷ 0 ∷ 0 ∷ 2 ∷ 0 ∷ [])) ≡ pos 2
+unfolding small ceiling ceilingTo last closesIn begin traceStart highest scores decision
+unreached-ceiling = refl
+
+-- tops of 3, 3 and 2: the score of an unclosed word may lie above the ceiling
+open-above : search (small (0 ∷ 0 ∷ 0 ∷ 2 ∷ 0 ∷ 0 ∷ 1 ∷ 1 ∷ []) (0 ∷ 2 ∷ 0 ∷ 0 ∷ 0 ∷ 0 ∷ 0 ∷ 1 ∷ [])) ≡ record { how = unclosed; word = 3; score = pos 3 }
+unfolding small search settled best last closesIn begin candidates beats traceStart traceWord highest scores decision
+open-above = refl
+
+open-above-ceiling : ceiling (small (0 ∷ 0 ∷ 0 ∷ 2 ∷ 0 ∷ 0 ∷ 1 ∷ 1 ∷ []) (0 ∷ 2 ∷ 0 ∷ 0 ∷ 0 ∷ 0 ∷ 0 ∷ 1 ∷ [])) ≡ pos 2
+unfolding small ceiling ceilingTo last closesIn begin traceStart highest scores decision
+open-above-ceiling = refl
+
+-- at f32 a later pass's top can be greater, by rounding: 25,165,826 and then 25,165,828. The ceiling is the least, not the last
+smallSingle : List ℕ → List ℕ → Trellis Float
+smallSingle a b = record { scale = single; states = 4; steps = 2; earn = λ j r. ofInt binary32 (pos (getD (getD (a ∷ b ∷ []) j []) r 0)) }
+
+rising : Trellis Float
+rising = smallSingle (0 ∷ 0 ∷ 0 ∷ 16777218 ∷ 0 ∷ 0 ∷ 3 ∷ 0 ∷ []) (0 ∷ 0 ∷ 0 ∷ 0 ∷ 0 ∷ 0 ∷ 0 ∷ 8388608 ∷ [])
+
+rising-top : lt (topOf rising (begin rising 0)) (topOf rising (begin rising 1)) ≡ true
+unfolding rising smallSingle begin highest scores lt add sub ofInt
+rising-top = refl
+
+rising-ceiling : ceiling rising ≡ ofInt binary32 (pos 25165826)
+unfolding rising smallSingle ceiling ceilingTo last closesIn begin traceStart highest scores decision lt add sub ofInt
+rising-ceiling = refl

@@ -1,5 +1,5 @@
 -- What is claimed of a header read: demand 3, for terms that are whole numbers, and what holds of every read that is not refused. The words are
--- document 01's: a walk, a closed word, handed out as closed, out by closing in the first pass.
+-- document 01's: a walk, a closed word, handed out as closed, out by closing in the first pass. Document 02, #106: the ceiling.
 use Prim.Native.Nat.{ℕ, _+_, _-_, _^_, _≤_, _<_}
 use mathlib.Core.Path.{_≡_}
 use mathlib.Core.List.{List}
@@ -9,7 +9,7 @@ use lib.ListN.{getD}
 use lib.Signed.{_≤ℤ_, _<ℤ_}
 use lib.Ieee.{Float, le, lt}
 use Rattle.ieee.specs.Whole.{Whole}
-use Rattle.ieee.specs.Units.{Near}
+use Rattle.ieee.specs.Units.{Units, Near}
 use Rattle.frame.specs.Format.{formatOf, headerBits}
 use Rattle.frame.specs.Air.{slotOf}
 use Rattle.conv.specs.Encoder.{made, bit}
@@ -49,6 +49,13 @@ pub record BestWord {A : Type 0} (S : Scale A) (atMost less : A → A → Type 0
       → ((p v : ℕ) → p < 16384 → v < 2 ^ headerBits kind → Another kind w p v → less (walk S mode kind terms p v) (closed S mode kind terms w))
       → (a .word ≡ w) × OutInFirstPass (a .outcome)
 
+-- Document 02, #106: no closed word of that length scores above the ceiling, however many passes were run. `bound` is the ceiling in the numbers in
+-- which the words' scores are counted: `Is x z` says that the float x is z of them, and `atMost` compares them.
+pub record NoneAbove (Is : Float → ℤ → Type 0) (atMost : ℤ → ℤ → Type 0) (mode kind : ℕ) (ints : ℕ → ℤ) (a : Answer Float) : Type 0 where
+  pub bound : ℤ
+  pub is : Is (a .ceiling) bound
+  pub none-above : (w : ℕ) → w < 2 ^ headerBits kind → atMost (closed whole mode kind ints w) bound
+
 -- For accepted terms from -2^a to 2^a, in units of 2^-149 (so 2^(149+k) units are 2^k): 2^(a-9) bounds what rounding loses in a walk's score, and
 -- twice as much what it loses between two
 abbrev pub lost : ℕ → ℕ
@@ -80,6 +87,8 @@ module _ (mode kind : ℕ) where
     pub sent : (w : ℕ) → closed single mode kind (lent terms) w
         ≡ sum single (λ j. symbolEarns single mode kind (lent terms) w (slotOf (headerBits kind) j)) (headerBits kind)
     pub best : BestWord single (λ x y. T (le x y)) (λ x y. T (lt x y)) mode kind (lent terms) a
+    -- out by closing in the first pass, the ceiling is the score
+    pub at-ceiling : OutInFirstPass (a .outcome) → a .ceiling ≡ scoreIn (a .outcome)
 
   -- How far f32 can be from the truth, for accepted terms from -2^a to 2^a, a from 0 to 20. `ints` are the terms in units of 2^-149, exactly, so
   -- `walk whole` is a walk's exact score in such units, with no rounding anywhere.
@@ -91,9 +100,12 @@ module _ (mode kind : ℕ) where
     -- no walk's exact score, and so no word's, is above the closed word's by more than 2^(a-8), and a closed word whose exact score is above every
     -- other walk's by more than that is handed out
     pub best : BestWord whole (λ x y. x ≤ℤ (y +ℤ pos (margin a))) (λ x y. (x +ℤ pos (margin a)) <ℤ y) mode kind ints ans
+    -- whatever the outcome, no closed word's exact score is above the ceiling by more than 2^(a-8)
+    pub bounded : NoneAbove (Units 149) (λ x y. x ≤ℤ (y +ℤ pos (margin a))) mode kind ints ans
 
   -- what the header read promises of an answer, beside the equation for it
   pub record Claims (terms : List Float) (a : Answer Float) : Type 0 where
     pub whole : (ints : ℕ → ℤ) → WholeTerms 800 terms ints → Demand3 ints terms a
+    pub bounded : (ints : ℕ → ℤ) → WholeTerms 800 terms ints → NoneAbove Whole _≤ℤ_ mode kind ints a
     pub any : AnyTerms terms a
     pub near : (k : ℕ) (ints : ℕ → ℤ) → k ≤ 20 → UnitTerms k terms ints → NearExact k ints terms a

@@ -20,3 +20,7 @@ module _ {A : Type 0} (S : Scale A) where
   unfoldable pub highest : (ℕ → A) → ℕ → ℕ
   highest f zero = 0
   highest f (suc k) = choose (S .gt (f k) (f (highest f k))) k (highest f k)
+
+  -- the lesser of two, the first where they are equal
+  abbrev pub lesser : A → A → A
+  lesser a b = choose (S .gt a b) b a

@@ -1,11 +1,12 @@
 -- Document 01, 'A header read': the search, over any kind of score. It is a Viterbi search over a tail-biting code, wrapped around the trellis at
 -- most three times: each pass starts from the scores in which the one before ended. A table of scores is a function from the state.
+-- Document 02, #106: its ceiling.
 use Prim.Native.Nat.{ℕ, zero, suc, _+_, _*_, _/_, _%_, _^_}
 use mathlib.Core.Bool.{Bool, true, _&&_}
 use mathlib.Core.Option.{Option, none, some}
 use lib.Dec.{eqb}
 use Rattle.util.specs.Choose.{choose}
-use Rattle.trellis.specs.Scale.{Scale, highest}
+use Rattle.trellis.specs.Scale.{Scale, highest, lesser}
 use Rattle.trellis.specs.Trellis.{Trellis}
 
 -- The register by which state s was reached (its survivor): s itself, or s + N where the decision is for the upper one.
@@ -88,6 +89,10 @@ module _ {A : Type 0} (X : Trellis A) where
   abbrev pub gainOf : (ℕ → A) → ℕ → A
   gainOf f s = X .scale .sub (final f s) (f s)
 
+  -- the pass's top: the greatest gain of all its states, whether or not their tracebacks close (document 02, #106)
+  abbrev pub topOf : (ℕ → A) → A
+  topOf f = gainOf f (highest (X .scale) (gainOf f) (X .states))
+
   -- every state whose own traceback closes is a candidate by its gain: the best after the first k states, from what earlier passes left
   unfoldable pub candidates : (ℕ → A) → Option (Candidate A) → ℕ → Option (Candidate A)
   candidates f best zero = best
@@ -112,6 +117,15 @@ module _ {A : Type 0} (X : Trellis A) where
   -- the last pass run: the first that closes, at most the third
   unfoldable pub last : ℕ
   last = choose (closesIn 0) 0 (choose (closesIn 1) 1 2)
+
+  -- the least of the tops of passes 0 to k
+  unfoldable pub ceilingTo : ℕ → A
+  ceilingTo zero = topOf (begin zero)
+  ceilingTo (suc k) = lesser (X .scale) (ceilingTo k) (topOf (begin (suc k)))
+
+  -- the ceiling: the least over the passes run, one that closes included
+  unfoldable pub ceiling : A
+  ceiling = ceilingTo last
 
   -- the best candidate of the first k passes
   unfoldable pub best : ℕ → Option (Candidate A)

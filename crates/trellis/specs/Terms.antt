@@ -12,7 +12,7 @@ use Rattle.conv.specs.Label.{labelOf}
 use Rattle.model.specs.Metric.{metricOf}
 use Rattle.trellis.specs.Scale.{Scale}
 use Rattle.trellis.specs.Trellis.{Trellis}
-use Rattle.trellis.specs.Search.{search}
+use Rattle.trellis.specs.Search.{search, ceiling}
 use Rattle.trellis.specs.Answer.{Answer, answerOf}
 use Rattle.trellis.specs.Numbers.{single, whole}
 
@@ -38,9 +38,9 @@ header S mode kind terms =
 abbrev pub lent : List Float → ℕ → Float
 lent terms i = getD terms i nan
 
--- the answer of document 01's search
+-- the answer of document 01's search, with its ceiling
 abbrev pub documentSearch : ℕ → ℕ → List Float → Answer Float
-documentSearch mode kind terms = answerOf (search (header single mode kind (lent terms)))
+documentSearch mode kind terms = answerOf (search (header single mode kind (lent terms))) (ceiling (header single mode kind (lent terms)))
 
 -- the terms are the whole numbers ints, each from -b to b
 pub record WholeTerms (b : ℕ) (terms : List Float) (ints : ℕ → ℤ) : Type 0 where

@@ -1,6 +1,6 @@
 -- `header::searched` meets its contract: the search over the list of metrics is document 01's over the terms (`search-same`). Assumes nothing.
 use Prim.Native.Nat.{_*_, _≤_}
-use mathlib.Core.Path.{refl, sym, ap, _∙_}
+use mathlib.Core.Path.{refl, sym, ap, ap₂, _∙_}
 use native.Mathlib.Omega.{arith}
 use borrow.Author.Needs.{needs}
 use lib.Ieee.{Float}
@@ -8,7 +8,7 @@ use lib.ListN.{take}
 use Rattle.frame.proofs.Air.{header-most}
 use Rattle.search.specs.Lent.{Lent}
 use Rattle.search.proofs.Lengths.{same-lengths}
-use Rattle.header.proofs.Laid.{part-length, part-lent, lent-room, search-same}
+use Rattle.header.proofs.Laid.{part-length, part-lent, lent-room, search-same, ceiling-same}
 use Rattle.trellis.specs.Answer.{Outcome, answerOf}
 use Rattle.header.proofs.searched.Statement.{statement}
 use Rattle.header.proofs.searched.Tie as tie
@@ -69,16 +69,16 @@ outcome-of-requires : tie.Need-outcome-of-requires
 outcome-of-requires c κs = search needs
 
 same-length : tie.Need-same-length
-same-length c = same-lengths (lent-there (found c .before)) (found c .search .ensures .1) .of-scores
+same-length c = same-lengths (lent-there (found c .before)) (found c .search .ensures .1 .1) .of-scores
 
 same-length-2 : tie.Need-same-length-2
-same-length-2 c = same-lengths (lent-there (found c .before)) (found c .search .ensures .1) .of-next
+same-length-2 c = same-lengths (lent-there (found c .before)) (found c .search .ensures .1 .1) .of-next
 
 same-length-3 : tie.Need-same-length-3
-same-length-3 c = same-lengths (lent-there (found c .before)) (found c .search .ensures .1) .of-start
+same-length-3 c = same-lengths (lent-there (found c .before)) (found c .search .ensures .1 .1) .of-start
 
 same-length-4 : tie.Need-same-length-4
-same-length-4 c = same-lengths (lent-there (found c .before)) (found c .search .ensures .1) .of-decisions
+same-length-4 c = same-lengths (lent-there (found c .before)) (found c .search .ensures .1 .1) .of-decisions
 
 returns : tie.Need-returns
 returns c =
@@ -88,10 +88,11 @@ returns c =
     let rows = at .before .before .rows in
     let n = at .header-symbols in
     let list = rows .last .1 .1 .1 .0 in (
-      ap (λ (o : Outcome Float). record { word = s .result .word; outcome = o }) (c .outcome-of .ensures)
-          ∙ ap answerOf
-          (s .ensures .0 ∙ search-same (a .mode) (a .kind) (a .terms .now) list (rows .ensures .0) (rows .ensures .1) (n .result) (n .ensures)),
-      lent-room (a .mode) (a .kind) (a .terms .now) list (rows .ensures .0) (rows .ensures .1) (n .result) (n .ensures) (s .ensures .1),
+      ap (λ (o : Outcome Float). record { word = s .result .word; outcome = o; ceiling = s .result .ceiling }) (c .outcome-of .ensures)
+          ∙ ap₂ answerOf
+          (s .ensures .0 ∙ search-same (a .mode) (a .kind) (a .terms .now) list (rows .ensures .0) (rows .ensures .1) (n .result) (n .ensures))
+          (s .ensures .1 .0 ∙ ceiling-same (a .mode) (a .kind) (a .terms .now) list (rows .ensures .0) (rows .ensures .1) (n .result) (n .ensures)),
+      lent-room (a .mode) (a .kind) (a .terms .now) list (rows .ensures .0) (rows .ensures .1) (n .result) (n .ensures) (s .ensures .1 .1),
     )
 
 pub searched-spec : {M : Type 1} → statement M

@@ -43,7 +43,7 @@ returns c =
     let numbers = c .in-numbers .ensures in
     let given = c .before .before .a .given in (
       answered _ _ (areas (a .scores .now) (a .next .now) (a .start .now) (a .decisions .now)) (areas _ _ _ _) (o .0) (o .1 .0) (o .1 .1 .0)
-          (o .1 .1 .1 .0) (o .1 .1 .1 .1 .0) (lent (a .word .now) (a .outcome .now) (a .pass .now) (a .score .now)) (answerIs (given .0 .0)) _ _ _
+          (o .1 .1 .1 .0) (o .1 .1 .1 .1 .0) (lent (a .word .now) (a .outcome .now) (a .pass .now) (a .score .now) (a .ceiling .now)) (answerIs (given .0 .0)) _ _ _
           (sym (ap meaning (given .1))) (numbers .0) (numbers .1) (numbers .2),
       (λ z. claimed (numbers .0) (numbers .1) (numbers .2) (o .1 .1 .1 .1 .1 (given .0 .0) (given .1))),
     )
@@ -68,7 +68,7 @@ returns-2 c =
     let w = areas (a .scores .now) (a .next .now) (a .start .now) (a .decisions .now) in
     let refused = sym (ap meaning (c .before .k .given .1)) in (
       refused-face _ _ w (areas _ _ _ _) (o .0) (o .1 .0) (o .1 .1 .0) (o .1 .1 .1 .0) (o .1 .1 .1 .1 .0)
-          (lent (a .word .now) (a .outcome .now) (a .pass .now) (a .score .now)) _ refused,
+          (lent (a .word .now) (a .outcome .now) (a .pass .now) (a .score .now) (a .ceiling .now)) _ refused,
       (λ z. absurd (not-read (a .mode) (a .kind) (a .terms .now) w _ (refused ∙ o .0) z)),
     )
 

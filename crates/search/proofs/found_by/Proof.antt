@@ -16,21 +16,24 @@ shared-slice-read-top c = search needs
 trace-requires : tie.Need-trace-requires
 trace-requires c κs = search needs
 
-mul-t9 : tie.Need-mul-t9
-mul-t9 c = search needs
+mul-score : tie.Need-mul-score
+mul-score c = search needs
 
-shared-slice-read-t11 : tie.Need-shared-slice-read-t11
-shared-slice-read-t11 c = search needs
+shared-slice-read-score : tie.Need-shared-slice-read-score
+shared-slice-read-score c = search needs
+
+top-gain-requires : tie.Need-top-gain-requires
+top-gain-requires c κs = search needs
 
 returns : tie.Need-returns
 returns c =
-    let at = c .before .before .before .before .before .before .before .before in
-    let end = c .before .before .before .end-state in
-    let t = c .before .trace in
+    let at = c .before .before .before .before .before .before .before .before .before in
+    let end = c .before .before .before .before .end-state in
+    let t = c .before .before .trace in
     passed (at .args .metrics .now) (at .args .start .now) (at .args .scores .now) (at .args .decisions .now) (end .result) (t .result .word) (t .result .start)
-    (at .pre .1 .1) (end .ensures .0) (end .ensures .1) (t .ensures .0) (t .ensures .1)
+    (at .pre .1 .1) (end .ensures .0) (end .ensures .1) (t .ensures .0) (t .ensures .1) (c .top-gain .ensures)
 
 pub found-by-spec : {M : Type 1} → statement M
 found-by-spec =
     tie.close
-    (tie.spec end-state-requires mul-top shared-slice-read-top trace-requires mul-t9 shared-slice-read-t11 returns)
+    (tie.spec end-state-requires mul-top shared-slice-read-top trace-requires mul-score shared-slice-read-score top-gain-requires returns)

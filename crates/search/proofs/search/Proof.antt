@@ -5,23 +5,27 @@ use mathlib.Core.Path.{_≡_, refl, ap, _∙_}
 use native.Mathlib.Numerals.{add-one}
 use native.Mathlib.Omega.{arith}
 use borrow.Author.Needs.{needs}
-use Rattle.pass.specs.Areas.{stepsIn}
+use lib.Dec.{eqb}
+use Rattle.pass.specs.Areas.{stepsIn, over}
 use Rattle.search.proofs.Lengths.{same-lengths}
-use Rattle.search.proofs.Rounds.{Begun, first, out, counted, next-begins, over-all}
-use Rattle.trellis.specs.Search.{closing}
+use Rattle.search.proofs.Rounds.{Begun, first, out, lowest, out-ceiling, counted, next-begins, over-all, over-ceiling}
+use Rattle.trellis.specs.Scale.{lesser}
+use Rattle.trellis.specs.Numbers.{single}
+use Rattle.trellis.specs.Search.{closing, ceilingTo}
+use Rattle.util.specs.Choose.{choose}
 use Rattle.search.proofs.search.Statement.{statement}
 use Rattle.search.proofs.search.Tie as tie
 
 abbrev Inv-loop : tie.InvT-loop
-Inv-loop metrics scores₀ next₀ start₀ decisions₀ steps best₀ pass₀ scores next start decisions best pass =
-    (steps ≡ stepsIn metrics) × (k : ℕ) × (pass ≡ suc k) × Begun metrics scores next start decisions best k
+Inv-loop metrics scores₀ next₀ start₀ decisions₀ steps best₀ ceiling₀ pass₀ scores next start decisions best ceiling pass =
+    (steps ≡ stepsIn metrics) × (k : ℕ) × (pass ≡ suc k) × Begun metrics scores next start decisions best ceiling k
 
 abbrev μ-loop : tie.MeasureT-loop
-μ-loop metrics scores₀ next₀ start₀ decisions₀ steps best₀ pass₀ scores next start decisions best pass = 3 - pass
+μ-loop metrics scores₀ next₀ start₀ decisions₀ steps best₀ ceiling₀ pass₀ scores next start decisions best ceiling pass = 3 - pass
 
 -- ---- back from a place to the pass that has run, to where it was about to begin, and to the entry
-abbrev ran : tie.After-slice-known8 Inv-loop μ-loop → tie.After-run Inv-loop μ-loop
-ran c = c .before .before .before .before .before .before
+abbrev ran : tie.After-ceiling-after Inv-loop μ-loop → tie.After-run Inv-loop μ-loop
+ran c = c .before .before .before .before .before .before .before
 
 abbrev unclosed : tie.After-scan Inv-loop μ-loop → tie.Else1 Inv-loop μ-loop
 unclosed c = c .before .before .before .before
@@ -31,6 +35,15 @@ begun c = c .before .before .before .before .before
 
 abbrev entry : tie.After-run Inv-loop μ-loop → tie.Start Inv-loop μ-loop
 entry c = begun c .before .before .before .before .before .before .before .before .before .before
+
+-- the ceiling, that pass counted in
+low-is : (c : tie.After-ceiling-after Inv-loop μ-loop) → c .ceiling-after .result ≡ ceilingTo (over (entry (ran c) .args .metrics .now)) (begun (ran c) .loop .inv .1)
+low-is c =
+    let r = ran c in
+    let at = begun r .loop in
+    let gain = r .run .result .gain in
+    lowest (at .inv .3) (r .run .ensures .0)
+    (c .ceiling-after .ensures ∙ ap (λ (p : ℕ). choose (eqb p 1) gain (lesser single (at .ceiling) gain)) (at .inv .2))
 
 -- ----
 
@@ -44,6 +57,9 @@ loop-holds c =
 
 run-requires : tie.Need-run-requires Inv-loop μ-loop
 run-requires c κs = c .before .before .before .before .loop .inv .3 .lent
+
+ceiling-after-requires : tie.Need-ceiling-after-requires Inv-loop μ-loop
+ceiling-after-requires c κs = search needs
 
 same-length : tie.Need-same-length Inv-loop μ-loop
 same-length c = let r = ran (c .before) in same-lengths (entry r .pre) (r .run .ensures .1) .of-scores
@@ -64,7 +80,7 @@ returns c =
     let t = r .run .result in (
       ap (λ (n : ℕ). record { how = closing n; word = t .word; score = t .score }) (inv .2)
           ∙ out (inv .3) (r .run .ensures .0) (c .if1 .taken),
-      r .run .ensures .1,
+      (out-ceiling (inv .3) (r .run .ensures .0) (c .if1 .taken) (low-is (c .before)), r .run .ensures .1),
     )
 
 scan-requires : tie.Need-scan-requires Inv-loop μ-loop
@@ -104,7 +120,10 @@ returns-2 c =
     let inv = begun r .loop .inv in
     let last : inv .1 ≡ 2 = omega (arith, inv .2, c .before .if2 .taken) in
     let so-far = counted (inv .3) (passed .0) (best .result) (best .ensures) in
-    (c .best-or-last .ensures ∙ over-all (inv .3) (passed .0) (best .result) (left .if1 .left) last so-far, passed .1)
+    let answer = c .best-or-last .ensures in (
+      answer .0 ∙ over-all (inv .3) (passed .0) (best .result) (left .if1 .left) last so-far,
+      (answer .1 ∙ over-ceiling (inv .3) (passed .0) (left .if1 .left) last (low-is (left .before)), passed .1),
+    )
 
 lower-requires : tie.Need-lower-requires Inv-loop μ-loop
 lower-requires c κs = search needs
@@ -133,13 +152,13 @@ loop-again c =
       refl,
       suc (inv .1),
       add-one _ ∙ ap suc (inv .2),
-      next-begins (inv .3) (passed .0) (best .result) (left .if1 .left) few so-far (low .at)
+      next-begins (inv .3) (passed .0) (best .result) (left .if1 .left) few so-far (low-is (left .before)) (low .at)
           (record { steps = lent .steps; of-scores = lent .of-scores; of-next = lent .of-next; of-start = low .size; of-decisions = lent .of-decisions }),
     )
 
 pub search-spec : {M : Type 1} → statement M
 search-spec =
     tie.close
-    (tie.spec Inv-loop μ-loop clear-requires loop-holds run-requires same-length same-length-2 same-length-3
+    (tie.spec Inv-loop μ-loop clear-requires loop-holds run-requires ceiling-after-requires same-length same-length-2 same-length-3
     same-length-4 returns scan-requires best-or-last-requires same-length-5 same-length-6 same-length-7 same-length-8
     returns-2 lower-requires add-pass loop-less loop-again)
