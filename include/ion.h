@@ -31,10 +31,10 @@ extern "C" {
 
 /* The number of the last change request that is in; 0 is the base. Answer, outcome and tracker will grow. The library has the number
  * in a symbol's name, which every file that includes this header asks for: a library of another version does not link. */
-#define ION_VERSION 105
-uint32_t ion_version_105(void);
+#define ION_VERSION 106
+uint32_t ion_version_106(void);
 #if defined(__GNUC__)
-__attribute__((used)) static uint32_t (*const ion_version)(void) = ion_version_105;
+__attribute__((used)) static uint32_t (*const ion_version)(void) = ion_version_106;
 #endif
 
 /* modes, kinds, the form of data, the first and the last layout, what was heard of a symbol, outcomes of a header read */
@@ -109,8 +109,12 @@ uint32_t ion_interleave_sym(const uint8_t *symbols, size_t symbols_len, uint8_t 
 
 /* Reads a header. terms: n*260 floats. Work areas, zeros after an answer: scores, next and start of 16,384 floats, decisions of n*256
  * words. word: header bit j at place j from the lowest, zeros above the last. outcome: ION_SURE, ION_KEPT or ION_OPEN. pass: 1 to 3 for
- * Sure, else 0. score: what the search gives the word. The layout has no part in it; under this mode and kind the word's CRC is
- * good in one layout at most.
+ * Sure, else 0. score: what the search gives the word. ceiling: how good any word could have been. The layout has no part in it; under
+ * this mode and kind the word's CRC is good in one layout at most.
+ *
+ * The ceiling: for each pass that the search ran (at most three; one that closes ends it) take from each of the 16,384 states its score
+ * at the end less the same state's score at the start of the pass, both f32 and so subtracted, and of these the greatest; the ceiling is
+ * the least of them over the passes.
  *
  * What is proved of an answer, and under which condition:
  * - Sure in pass 1, any accepted terms: the score is the word's own, added in f32 as the receiver adds it, and no other word, closed or
@@ -120,17 +124,25 @@ uint32_t ion_interleave_sym(const uint8_t *symbols, size_t symbols_len, uint8_t 
  *   the word's sent symbols earn.
  * - Sure in pass 2 or 3, Kept: a closed word that the search gives. It need not be the best one.
  * - Open: no closed word was found; the word is no header's.
+ * - The ceiling, whole terms from -800 to 800: no closed word of n bits scores above it, whether one pass was run, two or three. So a word
+ *   that is Sure or Kept with the ceiling as its score is beaten by no closed word.
+ * - The ceiling of Sure in pass 1, any accepted terms: it is the score, bit for bit.
+ * - The ceiling, terms within +-2^a (a from 0 to 20): no closed word's exact score is above it by more than 2^(a-8), however many passes
+ *   were run: with terms within +-64 by no more than a quarter of a point.
+ * The ceiling is a bound and no more. It need not be reached by any word, so a score below it does not say that there is a better word.
+ * An Open word is not closed, and its score may lie above the ceiling; for terms that are not whole, so may the score of Kept and of Sure
+ * in pass 2 or 3, by rounding.
  * Refused: 1, 4 (one of the five lengths), 6 (a term not finite or beyond +-1,000,000). */
 uint32_t ion_read_header(uint8_t mode, uint8_t kind, const float *terms, size_t terms_len, float *scores, size_t scores_len,
                          float *next, size_t next_len, float *start, size_t start_len, uint64_t *decisions, size_t decisions_len,
-                         uint64_t *word, uint8_t *outcome, uint8_t *pass, float *score);
+                         uint64_t *word, uint8_t *outcome, uint8_t *pass, float *score, float *ceiling);
 
 /* Writes a slip of 44 bytes: a header as read, with mode and kind, the sample at which its burst starts and its segment's number. Six fields,
  * each a tag of one byte, a length of two and the value, every number with its highest byte first:
  *   tag 1 mode, 1 byte; 2 kind, 1; 3 word, 8; 4 outcome, 6: the outcome, the pass, the score's four bytes; 5 start sample, 8; 6 segment, 2.
  * A slip holds: a mode and a kind that are named; a word with zeros above its 48 bits (64 for ION_DATA); ION_SURE with a pass of 1 to 3,
  * ION_KEPT or ION_OPEN with 0; a finite score (-0.0 is one, and has its own bytes); any start and segment. It has neither the layout nor
- * a verdict on the word's CRC, which ion_crc tells in the layout in use.
+ * the ceiling, nor a verdict on the word's CRC, which ion_crc tells in the layout in use.
  * Proved: every answer of ion_read_header is such, with any start and segment. ion_read_slip gives back what was written, bit for bit.
  * Refused: 4 (slip_len is not 44), 13 (values that no slip holds, an outcome above 2 or a pass that does not go with it among them). */
 uint32_t ion_write_slip(uint8_t mode, uint8_t kind, uint64_t word, uint8_t outcome, uint8_t pass, float score, uint64_t start,

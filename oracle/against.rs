@@ -16,7 +16,7 @@ use ion::phy_mfsk::hook::{Kind, MfskMode, code, decode_terms};
 unsafe extern "C" {
     fn other_read_header(
         mode: u8, kind: u8, terms: *const f32, terms_len: usize, scores: *mut f32, scores_len: usize, next: *mut f32, next_len: usize, start: *mut f32, start_len: usize,
-        decisions: *mut u64, decisions_len: usize, word: *mut u64, outcome: *mut u8, pass: *mut u8, score: *mut f32,
+        decisions: *mut u64, decisions_len: usize, word: *mut u64, outcome: *mut u8, pass: *mut u8, score: *mut f32, ceiling: *mut f32,
     ) -> u32;
 }
 
@@ -25,7 +25,7 @@ fn other(h: &mut Header, mode: u8, kind: u8, terms: &[f32]) -> u32 {
     unsafe {
         other_read_header(
             mode, kind, terms.as_ptr(), terms.len(), scores.as_mut_ptr(), scores.len(), next.as_mut_ptr(), next.len(), start.as_mut_ptr(), start.len(),
-            h.decisions.as_mut_ptr(), h.decisions.len(), &mut h.word, &mut h.outcome, &mut h.pass, &mut h.score,
+            h.decisions.as_mut_ptr(), h.decisions.len(), &mut h.word, &mut h.outcome, &mut h.pass, &mut h.score, &mut h.ceiling,
         )
     }
 }
@@ -33,12 +33,12 @@ fn other(h: &mut Header, mode: u8, kind: u8, terms: &[f32]) -> u32 {
 /// Areas for a header of 64 symbols. Each side has its own, and finds them as zeros, as the call before left them.
 fn lent() -> Header {
     let [a, b, c, d] = Header::lengths(64);
-    Header { scores: [vec![0.0; a], vec![0.0; b], vec![0.0; c]], decisions: vec![0; d], word: 0, outcome: 0, pass: 0, score: 0.0 }
+    Header { scores: [vec![0.0; a], vec![0.0; b], vec![0.0; c]], decisions: vec![0; d], word: 0, outcome: 0, pass: 0, score: 0.0, ceiling: 0.0 }
 }
 
 /// All that a read answers and leaves, but the areas.
-fn answer(h: &Header) -> (u64, u8, u8, u32) {
-    (h.word, h.outcome, h.pass, h.score.to_bits())
+fn answer(h: &Header) -> (u64, u8, u8, u32, u32) {
+    (h.word, h.outcome, h.pass, h.score.to_bits(), h.ceiling.to_bits())
 }
 
 fn zeros(h: &Header) -> bool {

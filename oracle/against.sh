@@ -2,11 +2,12 @@
 # Times the header read of this checkout against another checkout's and the Rust's: the three by turns in one run, on the same headers.
 # usage: oracle/against.sh CHECKOUT [HEADERS]
 #        (from anywhere; needs rustc, objcopy, ld and ../shared; writes only below target/, and target/ of the other checkout)
-# CHECKOUT: a clone of the repository at another commit, with the same C function `ion_read_header`. HEADERS: 1,000 of each style
-# unless given, which takes some minutes.
+# CHECKOUT: a clone of the repository at another commit, with the same C function `ion_read_header`: of version 106 or later, since which it
+# tells the ceiling. HEADERS: 1,000 of each style unless given, which takes some minutes.
 set -eu
 . "$(dirname "$0")/common.sh"
 [ -f "${1:-}/crates.txt" ] || { echo "against.sh: the other checkout is not there (oracle/against.sh --help)" >&2; exit 2; }
+grep -q 'float \*ceiling' "$1/include/ion.h" || { echo "against.sh: the other checkout is older than version 106: its header read tells no ceiling" >&2; exit 2; }
 other=$(cd "$1" && pwd -P)
 cd "$root"
 our_library ion

@@ -41,14 +41,15 @@ fn by_turns<A, B>(ours_first: bool, ours: impl FnOnce() -> A, theirs: impl FnOnc
     }
 }
 
-/// Headers of 64 symbols in R0. The Rust's table of labels is made beforehand, the areas are cleared before both.
+/// Headers of 64 symbols in R0. The Rust's table of labels is made beforehand, the areas are cleared before both. The Rust works out no ceiling.
 fn headers(repeats: usize, name: &str, style: usize) {
     let c = code();
     let [a, b, _, e] = Header::lengths(64);
     let done = pairs(repeats, |i, first| {
         let t = styled(style, MfskMode::R0, Kind::Data, &mut Dice(1 << 50 | i << 20));
         let r = rows(&t);
-        let mut h = Header { scores: [vec![0.0; a], vec![0.0; b], vec![0.0; a]], decisions: vec![0; e], word: 0, outcome: 0, pass: 0, score: 0.0 };
+        let scores = [vec![0.0; a], vec![0.0; b], vec![0.0; a]];
+        let mut h = Header { scores, decisions: vec![0; e], word: 0, outcome: 0, pass: 0, score: 0.0, ceiling: 0.0 };
         let ((ours, k), (theirs, (bits, score))) = by_turns(first, || h.read(0, 1, &t), || decode_terms(&c, MfskMode::R0, Kind::Data, &r));
         assert!(k == 0 && score.to_bits() == h.score.to_bits() && bits == inputs::bits_of(h.word, 64));
         (ours, theirs)

@@ -18,10 +18,12 @@ fn float(x: f32) -> String {
     format!("{}{}.{:03} ({:08x})", if x.is_sign_negative() { "-" } else { "" }, n / 1000, n % 1000, x.to_bits())
 }
 
-/// What the Rust reads: the word, whether its CRC is good, and the lines; the slip's by slip.rs, for a start sample and a segment.
+/// What the Rust reads: the word, whether its CRC is good, and the lines; the ceiling's by the copy of its loop to which make.sh adds the tops, the
+/// slip's by slip.rs, for a start sample and a segment.
 fn expected(c: &ConvCode, b: &Burst, soft: bool, metrics: bool, told: Option<(u64, u16)>) -> (u64, bool, String) {
     let (mode, kind) = (MODES[b.mode as usize], KINDS[b.kind as usize]);
-    let (bits, score, (how, pass, _)) = decode_terms_told(c, mode, kind, &rows(&b.header_terms));
+    let (bits, score, copy) = decode_terms_told(c, mode, kind, &rows(&b.header_terms));
+    let (how, pass) = (copy.kind, copy.pass);
     let word = bits.iter().rev().fold(0, |w, &b| w << 1 | b as u64);
     let n = bits.len() - 16;
     let good = air::crc16(&bits[..n], air::crc_start(b.layout as usize, mode, kind)) as u32 == air::read_bits(&bits[n..], 16);
@@ -29,10 +31,11 @@ fn expected(c: &ConvCode, b: &Burst, soft: bool, metrics: bool, told: Option<(u6
     let out = soft_terms(mode, b.symbols, bits.len(), b.bits as usize, &rows(&b.data_terms), &blanked);
     let mut s = String::new();
     let outcome = [format!("Sure, pass {pass}"), "Kept".into(), "Open".into()][how as usize].clone();
-    writeln!(s, "header {word:0w$x}\noutcome {outcome}\nscore {}\nCRC {}", float(score), if good { "good" } else { "bad" }, w = bits.len() / 4).unwrap();
+    writeln!(s, "header {word:0w$x}\noutcome {outcome}\nscore {}\nceiling {}", float(score), float(copy.ceiling()), w = bits.len() / 4).unwrap();
+    writeln!(s, "CRC {}", if good { "good" } else { "bad" }).unwrap();
     writeln!(s, "data symbols {}, erased {}", blanked.len(), blanked.iter().filter(|&&f| f > 0.5).count()).unwrap();
     if let Some((start, segment)) = told {
-        let slip = Slip { mode: b.mode, kind: b.kind, word, outcome: how, pass: pass as u8, score: score.to_bits(), start, segment };
+        let slip = Slip { mode: b.mode, kind: b.kind, word, outcome: how, pass, score: score.to_bits(), start, segment };
         writeln!(s, "slip {}", slip.written(44).unwrap().iter().map(|b| format!("{b:02x}")).collect::<String>()).unwrap();
     }
     if soft {

@@ -4,6 +4,7 @@ use ion::phy_mfsk::hook::{Fmt, Kind, MfskMode, air, windows};
 mod board;
 mod boards;
 mod drift;
+mod exact;
 mod face;
 mod inputs;
 mod read;

@@ -10,7 +10,7 @@ unsafe extern "C" {
     fn ion_interleave_sym(symbols: *const u8, symbols_len: usize, values: *mut u8, values_len: usize) -> u32;
     fn ion_read_header(
         mode: u8, kind: u8, terms: *const f32, terms_len: usize, scores: *mut f32, scores_len: usize, next: *mut f32, next_len: usize, start: *mut f32,
-        start_len: usize, decisions: *mut u64, decisions_len: usize, word: *mut u64, outcome: *mut u8, pass: *mut u8, score: *mut f32,
+        start_len: usize, decisions: *mut u64, decisions_len: usize, word: *mut u64, outcome: *mut u8, pass: *mut u8, score: *mut f32, ceiling: *mut f32,
     ) -> u32;
     fn ion_soft_values(
         mode: u8, kind: u8, layout: u8, symbols: u8, window: u32, bits: u32, terms: *const f32, terms_len: usize, blanked: *const u32, blanked_len: usize,
@@ -57,6 +57,7 @@ pub struct Header {
     pub outcome: u8,
     pub pass: u8,
     pub score: f32,
+    pub ceiling: f32,
 }
 
 impl Header {
@@ -69,7 +70,7 @@ impl Header {
         unsafe {
             ion_read_header(
                 mode, kind, terms.as_ptr(), terms.len(), scores.as_mut_ptr(), scores.len(), next.as_mut_ptr(), next.len(), start.as_mut_ptr(), start.len(),
-                self.decisions.as_mut_ptr(), self.decisions.len(), &mut self.word, &mut self.outcome, &mut self.pass, &mut self.score,
+                self.decisions.as_mut_ptr(), self.decisions.len(), &mut self.word, &mut self.outcome, &mut self.pass, &mut self.score, &mut self.ceiling,
             )
         }
     }

@@ -1,18 +1,27 @@
 // A header read: the entry against the Rust's `decode_tb` over the same terms, its refusals against document 01's table, and demand 3 by
-// counting every walk of small codes of the same shape.
-use super::inputs::{Dice, STYLES, rows, styled};
+// counting every walk of small codes of the same shape. The Rust has no ceiling (document 02, #106): ours is held to the copy of `decode_tb`'s
+// loop to which make.sh adds the tops, and what is promised of it to exact sums.
+use super::exact::{self, Exact};
+use super::inputs::{self, Dice, STYLES, rows, sent_places, styled};
 use super::face::Header;
 use super::{KINDS, MODES, REFUSED, Section, told};
 use ion::fec::conv::ConvCode;
 use ion::phy_mfsk::hook::{Fmt, Kind, air, code, decode_terms, decode_terms_told};
 
 const PATTERN: u32 = 0x7F80_0001;
+const WORD: u64 = 0xA5A5_A5A5_A5A5_A5A5;
 
-/// What is lent. The areas start with a pattern of bits that is no zero: signalling NaNs in the scores.
+/// What is lent. The areas and the places start with patterns of bits that are no zero: signalling NaNs in the scores and the ceiling.
 fn lent(lengths: [usize; 4]) -> Header {
     let scores = |n| vec![f32::from_bits(PATTERN); n];
-    let decisions = vec![0xA5A5_A5A5_A5A5_A5A5; lengths[3]];
-    Header { scores: [scores(lengths[0]), scores(lengths[1]), scores(lengths[2])], decisions, word: 0, outcome: 0, pass: 0, score: 0.0 }
+    let scores = [scores(lengths[0]), scores(lengths[1]), scores(lengths[2])];
+    let (score, ceiling) = (f32::from_bits(PATTERN), f32::from_bits(PATTERN + 1));
+    Header { scores, decisions: vec![WORD; lengths[3]], word: WORD, outcome: 0xA5, pass: 0x5A, score, ceiling }
+}
+
+/// The five places of the answer, by their bits.
+fn places(h: &Header) -> [u64; 5] {
+    [h.word, h.outcome as u64, h.pass as u64, h.score.to_bits() as u64, h.ceiling.to_bits() as u64]
 }
 
 /// How many places of the areas do not hold these bits.
@@ -25,54 +34,125 @@ fn how(h: &Header) -> u64 {
     16 * h.outcome as u64 + h.pass as u64
 }
 
-/// One header: five pairs (answered, word, score's bits, outcome and pass, areas as zeros).
-fn header(s: &mut Section, c: &ConvCode, m: usize, k: usize, terms: &[f32], met: &mut [u64; 8], input: &dyn Fn() -> String) {
+/// What was met among headers.
+#[derive(Default, Clone, Copy)]
+struct Met {
+    /// Sure in pass 1, 2, 3, Kept from pass 1, 2, 3, Open.
+    outcomes: [u64; 7],
+    /// Of how many the ceiling is not the top of the first pass, not that of the last, and not the score; and of how many the score is above it.
+    not_first: u64,
+    not_last: u64,
+    not_score: u64,
+    score_above: u64,
+    /// Words held to the ceiling by exact sums, those above it by something, and the greatest share of what is allowed.
+    words: u64,
+    above: u64,
+    share: f64,
+}
+
+impl Met {
+    fn said(&self) -> String {
+        format!(
+            "ceiling not the first top {}, not the last {}, not the score {}, below the score {}; {} words' exact scores, {} above the ceiling, by {:.4} of what is allowed at most",
+            self.not_first, self.not_last, self.not_score, self.score_above, self.words, self.above, self.share
+        )
+    }
+}
+
+/// Closed words of which the exact score (the sum of the terms of their sent values) is not above the ceiling by more than is promised: by nothing
+/// where all terms are whole and within ±800, else by 2^(a-8), a the least from 0 with all terms within ±2^a.
+fn under(s: &mut Section, m: usize, k: usize, terms: &[f32], words: impl Iterator<Item = u64>, ceiling: f32, met: &mut Met, input: &dyn Fn() -> String) {
+    let most = terms.iter().fold(0f32, |m, t| m.max(t.abs()));
+    let a = (0..=20).find(|&a| most <= f32::powi(2.0, a)).expect("terms are within ±1,000,000");
+    let (whole, allowed) = (most <= 800.0 && terms.iter().all(|t| t.fract() == 0.0), f32::powi(2.0, a - 8));
+    for word in words {
+        // a ceiling that is no number, or beyond any score, is no ceiling
+        let mut above = Exact::default();
+        let mut wrong = !(ceiling.abs() < 1e9);
+        if !wrong {
+            sent_places(MODES[m], KINDS[k], word).into_iter().for_each(|at| (0..5).for_each(|row| above.add(terms[at + 53 * row - 106])));
+            above.sub(ceiling);
+            met.words += 1;
+            met.above += above.is_above_zero() as u64;
+            met.share = met.share.max(above.near() / allowed as f64);
+            if !whole {
+                above.sub(allowed);
+            }
+            wrong = above.is_above_zero();
+        }
+        s.pair(wrong as u64, 0, || format!("{}, word {word:x} over the ceiling {ceiling} by more than 2^{}", input(), a - 8));
+    }
+}
+
+/// One header: pairs (answered, word, score's bits, outcome and pass, ceiling's bits, areas as zeros; of one out in the first pass its ceiling's and
+/// its score's bits; and words under the ceiling: that sent, the answered one, those one bit from it, and some others).
+fn header(s: &mut Section, c: &ConvCode, m: usize, k: usize, terms: &[f32], sent: u64, met: &mut Met, input: &dyn Fn() -> String) {
     let n = air::header_info_bits(KINDS[k]);
     let mut ours = lent(Header::lengths(n));
     let before: Vec<u32> = terms.iter().map(|t| t.to_bits()).collect();
     let refused = ours.read(m as u8, k as u8, terms);
     let (bits, score) = decode_terms(c, MODES[m], KINDS[k], &rows(terms));
-    let (bits2, score2, (kind, pass, from)) = decode_terms_told(c, MODES[m], KINDS[k], &rows(terms));
+    let (bits2, score2, copy) = decode_terms_told(c, MODES[m], KINDS[k], &rows(terms));
     assert!(bits == bits2 && score.to_bits() == score2.to_bits(), "the copy of decode_tb's loop");
     let word = bits.iter().rev().fold(0u64, |w, &b| w << 1 | b as u64);
     s.pair(told(refused), 0, input);
     s.pair(ours.word, word, input);
     s.pair(ours.score.to_bits() as u64, score.to_bits() as u64, input);
-    s.pair(how(&ours), 16 * kind as u64 + pass as u64, input);
+    s.pair(how(&ours), 16 * copy.kind as u64 + copy.pass as u64, input);
+    s.pair(ours.ceiling.to_bits() as u64, copy.ceiling().to_bits() as u64, input);
     s.pair(other(&ours, 0, 0), 0, input);
+    if (copy.kind, copy.pass) == (0, 1) {
+        s.pair(ours.ceiling.to_bits() as u64, score.to_bits() as u64, input);
+    }
     assert!(before.iter().zip(terms).all(|(b, t)| *b == t.to_bits()));
-    met[match kind { 0 => pass as usize - 1, 1 => 2 + from as usize, _ => 6 }] += 1;
+    let mut d = Dice(sent);
+    let words = [sent, word].into_iter().chain((0..n).map(|j| word ^ 1 << j)).chain((0..8).map(|_| d.word()));
+    under(s, m, k, terms, words, ours.ceiling, met, input);
+    met.outcomes[match copy.kind { 0 => copy.pass as usize - 1, 1 => 2 + copy.from as usize, _ => 6 }] += 1;
+    met.not_first += (copy.ceiling() != copy.tops[0]) as u64;
+    met.not_last += (copy.ceiling() != copy.tops[copy.tops.len() - 1]) as u64;
+    met.not_score += (copy.ceiling() != score) as u64;
+    met.score_above += (copy.ceiling() < score) as u64;
 }
 
 fn headers(wrong: &mut bool, count: u64) {
     let c = code();
     for (style, name) in STYLES.iter().enumerate() {
         let mut s = Section::new("header read");
-        let mut met = [0u64; 8];
+        let mut met = Met::default();
         for i in 0..count {
             let (m, k) = (i as usize % 2, i as usize / 2 % 3);
-            let mut d = Dice((style as u64) << 40 | i << 20);
-            let t = styled(style, MODES[m], KINDS[k], &mut d);
-            header(&mut s, &c, m, k, &t, &mut met, &|| format!("style {style} number {i}"));
+            let seed = (style as u64) << 40 | i << 20;
+            let t = styled(style, MODES[m], KINDS[k], &mut Dice(seed));
+            header(&mut s, &c, m, k, &t, Dice(seed).word(), &mut met, &|| format!("style {style} number {i}"));
         }
-        print!("{name}: {count} headers, Sure in pass 1, 2, 3: {} {} {}, Kept from pass 1, 2, 3: {} {} {}, Open: {}; ", met[0], met[1], met[2], met[3], met[4], met[5], met[6]);
+        let o = met.outcomes;
+        print!("{name}: {count} headers, Sure in pass 1, 2, 3: {} {} {}, Kept from pass 1, 2, 3: {} {} {}, Open: {}; ", o[0], o[1], o[2], o[3], o[4], o[5], o[6]);
+        print!("{}; ", met.said());
         s.end(wrong);
     }
 }
 
-/// Headers of whole metrics given as step:value=metric, with what the search makes of them.
+/// Headers of whole metrics given as step:value=metric, with what the search makes of them: word, score, outcome, pass, ceiling.
 fn named(wrong: &mut bool) {
     let mut s = Section::new("header read, named headers");
     let c = code();
-    let mut met = [0u64; 8];
-    for (text, word, score, outcome, pass) in [
-        ("2:16=1", 0xc000000000, 1.0, 1, 0),
-        ("42:20=1 43:16=1 45:11=1 47:17=1", 0x5e8430000000, 4.0, 0, 2),
-        ("26:20=1 28:29=1 31:7=1 40:2=1 45:20=1", 0x253d0fc000, 5.0, 1, 0),
-        ("11:1=1 13:10=1 16:10=1 22:22=1 23:10=1 27:20=1 38:4=1 45:10=1 46:30=1 47:5=1", 0x9d498a106ebe, 9.0, 0, 2),
-        ("5:27=1 10:9=1 18:16=1 22:25=1 24:17=1 34:3=1 37:19=1 41:22=1 43:20=1 46:11=1", 0x45a17400c559, 9.0, 1, 0),
-        ("1:14=3 2:8=1 5:14=2 13:2=3 15:30=3 17:30=2 19:3=3 24:1=3 27:29=3 28:26=3 32:21=2 33:8=3 36:24=3", 0xb1e44d468, 30.0, 2, 0),
-        ("6:30=3 9:21=2 10:19=3 11:13=2 12:27=3 13:14=1 20:24=3 23:7=1 25:5=3 29:0=1 32:19=1 36:18=3 37:24=1 39:16=3 45:3=3 46:7=2 47:13=3", 0xe39e09e12ece, 29.0, 0, 3),
+    let mut met = Met::default();
+    for (text, word, score, outcome, pass, ceiling) in [
+        ("2:16=1", 0xc000000000, 1.0, 1, 0, 1.0),
+        ("42:20=1 43:16=1 45:11=1 47:17=1", 0x5e8430000000, 4.0, 0, 2, 4.0),
+        ("26:20=1 28:29=1 31:7=1 40:2=1 45:20=1", 0x253d0fc000, 5.0, 1, 0, 5.0),
+        ("11:1=1 13:10=1 16:10=1 22:22=1 23:10=1 27:20=1 38:4=1 45:10=1 46:30=1 47:5=1", 0x9d498a106ebe, 9.0, 0, 2, 10.0),
+        ("5:27=1 10:9=1 18:16=1 22:25=1 24:17=1 34:3=1 37:19=1 41:22=1 43:20=1 46:11=1", 0x45a17400c559, 9.0, 1, 0, 10.0),
+        // Open, its score above the ceiling
+        ("1:14=3 2:8=1 5:14=2 13:2=3 15:30=3 17:30=2 19:3=3 24:1=3 27:29=3 28:26=3 32:21=2 33:8=3 36:24=3", 0xb1e44d468, 30.0, 2, 0, 29.0),
+        ("6:30=3 9:21=2 10:19=3 11:13=2 12:27=3 13:14=1 20:24=3 23:7=1 25:5=3 29:0=1 32:19=1 36:18=3 37:24=1 39:16=3 45:3=3 46:7=2 47:13=3", 0xe39e09e12ece, 29.0, 0, 3, 30.0),
+        ("0:20=3 3:12=1 5:15=1 19:2=1 21:17=1 28:12=3 29:30=3 37:2=3 40:25=3 41:28=3 44:12=3 45:27=3", 0xb75cc20b8241, 19.0, 1, 0, 23.0),
+        ("4:1=3 9:7=3 10:19=3 13:12=1 13:15=2 15:0=3 16:7=2 17:0=3 19:29=1 25:3=3 25:17=2 26:18=2 28:26=2 30:23=2 32:8=3 37:29=3 38:3=1 40:14=3 41:0=3 42:25=2 44:30=2 47:29=1", 0x4465be44fd4e, 32.0, 0, 3, 32.0),
+        ("0:22=3 1:9=1 3:29=1 4:20=1 11:31=2 14:25=2 15:9=1 16:29=1 20:23=1 21:13=1 26:9=3 27:18=3 29:20=3 35:7=3 37:8=2 39:23=2 40:0=3 41:11=2 42:15=3 45:6=3 46:13=1", 0xf747be8fc9ab, 28.0, 1, 0, 28.0),
+        // out in pass 2 and in pass 3 with less than a candidate met before had
+        ("0:2=1 1:18=1 3:16=3 4:28=3 7:19=2 8:6=2 11:11=3 13:12=2 14:4=1 15:2=3 17:15=3 18:13=3 20:27=1 22:25=1 24:14=1 25:29=1 27:3=1 28:15=3 29:13=3 34:28=1 38:3=3 39:13=2 39:30=2 41:10=2 42:25=1 43:11=1 43:20=2 44:27=3 45:6=3 46:4=3 47:26=2", 0x3d0577389556, 35.0, 0, 2, 38.0),
+        ("0:10=2 2:3=3 2:29=3 4:19=3 4:21=3 8:11=3 9:7=3 11:10=3 11:26=3 12:13=2 14:27=3 21:12=3 23:1=1 23:15=3 24:0=1 25:17=3 25:18=1 27:22=1 29:31=2 30:21=2 31:10=3 31:24=3 35:8=3 36:2=3 37:10=3 37:18=2 39:23=3 42:25=3 45:12=2 46:20=2 47:3=2", 0xe74a36257021, 38.0, 0, 3, 40.0),
     ] {
         for m in 0..2 {
             let fmt = Fmt::of(MODES[m]);
@@ -89,13 +169,88 @@ fn named(wrong: &mut bool) {
             s.pair(ours.word, word, input);
             s.pair(ours.score.to_bits() as u64, f32::to_bits(score) as u64, input);
             s.pair(how(&ours), 16 * outcome + pass, input);
-            header(&mut s, &c, m, 0, &t, &mut met, &input);
+            s.pair(ours.ceiling.to_bits() as u64, f32::to_bits(ceiling) as u64, input);
+            header(&mut s, &c, m, 0, &t, word, &mut met, &input);
         }
     }
+    print!("{}; ", met.said());
     s.end(wrong);
 }
 
-/// The first number that the papers' order gives, worked out here from their table; a refusal leaves every bit of every area.
+/// Clean headers whose walks end in the first state, in the last one, and in those with one bit or all but one: each state counts for the top.
+fn states(wrong: &mut bool) {
+    let c = code();
+    let mut s = Section::new("header read, clean ones by their end state");
+    let mut met = Met::default();
+    for m in 0..2 {
+        for (k, n) in [(0, 48), (1, 64)] {
+            for bit in 0..16 {
+                for word in [1u64 << n - 1 - bit, !(1 << n - 1 - bit)] {
+                    // beyond the last 14 bits they end in state 0 and in state 16,383
+                    let t = inputs::terms(MODES[m], KINDS[k], word, 8.0, || 0.0);
+                    header(&mut s, &c, m, k, &t, word, &mut met, &|| format!("mode {m} kind {k} word {word:x}"));
+                }
+            }
+        }
+    }
+    s.pair(met.outcomes[0], 128, || "headers out in the first pass".into());
+    print!("{} headers; ", met.outcomes.iter().sum::<u64>());
+    s.end(wrong);
+}
+
+/// Headers that tell the least top from the last one. Of whole terms tops never rise from a pass to the next, so that no ceiling of them does; by
+/// rounding they can. Of the styles SEARCHED those are taken of which the copy says so, as many as FOUND of each.
+fn tellers(wrong: &mut bool) {
+    const SEARCHED: [usize; 3] = [2, 6, 7];
+    const FOUND: u64 = 3;
+    let c = code();
+    let mut s = Section::new("header read, headers whose ceiling is not the last top");
+    let (mut met, mut looked) = (Met::default(), 0);
+    for style in SEARCHED {
+        let before = met.not_last;
+        for i in 0..1000u64 {
+            let (m, k, seed) = (i as usize % 2, [0, 2][i as usize / 2 % 2], 1 << 50 | (style as u64) << 40 | i << 20);
+            let t = styled(style, MODES[m], KINDS[k], &mut Dice(seed));
+            let copy = decode_terms_told(&c, MODES[m], KINDS[k], &rows(&t)).2;
+            looked += 1;
+            if copy.ceiling() != copy.tops[copy.tops.len() - 1] {
+                header(&mut s, &c, m, k, &t, Dice(seed).word(), &mut met, &|| format!("style {style} seed {seed} tops {:?}", copy.tops));
+            }
+            if met.not_last == before + FOUND {
+                break;
+            }
+        }
+        s.pair(met.not_last - before, FOUND, || format!("such headers of style {style}"));
+    }
+    print!("of {looked} looked at {}; ", met.said());
+    s.end(wrong);
+}
+
+/// Terms close to one number near 2^a or -2^a, a from 0 to 20: of such sums most is lost, and words lie above the ceiling by rounding.
+fn lossy(wrong: &mut bool) {
+    let c = code();
+    let mut s = Section::new("header read, terms close to ±2^a");
+    let mut met = Met::default();
+    // how far they lie apart, and by how much a sent value's term is raised, as shares of 2^a
+    let apart = [(0.0, 4e-6), (1e-6, 4e-6), (1e-6, 1e-5), (1e-5, 3e-5), (1e-4, 4e-4)];
+    for (i, (apart, raised)) in (0..=20u64).flat_map(|a| apart.map(|x| (a, x))) {
+        for sign in [1.0, -1.0] {
+            let (a, m, k) = (i as i32, i as usize % 2, (i as usize + (sign > 0.0) as usize) % 3);
+            let mut d = Dice(1 << 51 | i << 30 | ((raised * 1e6) as u64) << 20 | (sign > 0.0) as u64);
+            let (sent, most) = (d.word(), f64::powi(2.0, a));
+            let about = sign * most * (1.0 - d.unit() / 8.0);
+            let within = |x: f64| x.clamp(-most.min(1e6), most.min(1e6)) as f32;
+            let mut t: Vec<f32> = (0..260 * air::header_info_bits(KINDS[k])).map(|_| within(about + most * apart * d.normal() as f64)).collect();
+            sent_places(MODES[m], KINDS[k], sent).into_iter().for_each(|at| t[at] = within(t[at] as f64 + most * raised));
+            header(&mut s, &c, m, k, &t, sent, &mut met, &|| format!("terms near {about}, {apart} of 2^{a} apart, raised by {raised} of it"));
+        }
+    }
+    s.pair((met.above > 0) as u64, 1, || "a word above the ceiling by rounding".into());
+    print!("{} headers; {}; ", met.outcomes.iter().sum::<u64>(), met.said());
+    s.end(wrong);
+}
+
+/// The first number that the papers' order gives, worked out here from their table; a refusal leaves every bit of every area and of the five places.
 fn refused(s: &mut Section, mode: u8, kind: u8, terms: &[f32], lengths: [usize; 4]) {
     let n = if kind == 1 { 64 } else { 48 };
     let want = if mode > 1 || kind > 2 {
@@ -111,11 +266,14 @@ fn refused(s: &mut Section, mode: u8, kind: u8, terms: &[f32], lengths: [usize; 
     let k = ours.read(mode, kind, terms);
     let input = || format!("mode {mode} kind {kind} terms {} areas {lengths:?}", terms.len());
     s.pair(told(k), want, input);
-    s.pair(if want == 0 { other(&ours, 0, 0) } else { other(&ours, PATTERN, 0xA5A5_A5A5_A5A5_A5A5) }, 0, input);
+    s.pair(if want == 0 { other(&ours, 0, 0) } else { other(&ours, PATTERN, WORD) }, 0, input);
+    if want != 0 {
+        places(&ours).into_iter().zip(places(&lent([0; 4]))).for_each(|(now, was)| s.pair(now, was, input));
+    }
 }
 
 fn refusals(wrong: &mut bool) {
-    let mut s = Section::new("header read, refusals 1, 4, 6 and untouched areas");
+    let mut s = Section::new("header read, refusals 1, 4, 6, untouched areas and places");
     let mut d = Dice(7);
     for mode in 0..=3u8 {
         for kind in 0..=3u8 {
@@ -149,10 +307,12 @@ fn refusals(wrong: &mut bool) {
     s.end(wrong);
 }
 
-/// Demand 3 by counting every walk of small codes of the same shape, on whole metrics: how often each premise was met.
+/// Demand 3 and the ceiling's promise by counting every walk of small codes of the same shape, on whole metrics: how often each premise was met. By
+/// the number of passes run: how many codes, of how many some closed word reaches the ceiling, and of how many an Open word is above it.
 fn every_walk(wrong: &mut bool) {
-    let mut s = Section::new("demand 3, every walk of small codes counted");
+    let mut s = Section::new("demand 3 and the ceiling, every walk of small codes counted");
     let mut met = [0u64; 4];
+    let (mut run, mut reached, mut open_above, mut rising) = ([0u64; 3], [0u64; 3], 0, 0);
     let mut d = Dice(11);
     for i in 0..20_000u64 {
         let (k, n) = (3 + i as usize % 2, 5 + i as usize % 3);
@@ -169,18 +329,26 @@ fn every_walk(wrong: &mut bool) {
             })
         };
         let closed = |w: usize| (0..k - 1).fold(0, |p, i| 2 * p + (w >> (n - (k - 1) + i) & 1));
-        let (bits, score, (kind, pass, _)) = c.decode_tb_told(n, 3, &mut |j, m| m.copy_from_slice(&metrics[4 * j..4 * j + 4]));
+        let (bits, score, copy) = c.decode_tb_told(n, 3, &mut |j, m| m.copy_from_slice(&metrics[4 * j..4 * j + 4]));
+        let (kind, pass, ceiling, passes) = (copy.kind, copy.pass, copy.ceiling(), copy.tops.len() - 1);
         let word = bits.iter().rev().fold(0usize, |w, &b| w << 1 | b as usize);
         let input = || format!("code {gens:?} of {k} bits, {n} steps, metrics {metrics:?}");
         if kind != 2 {
             met[0] += 1;
             s.pair((walk(closed(word), word).0 == score) as u64, 1, input);
         }
+        let most = (0..1usize << n).map(|w| walk(closed(w), w).0).fold(f32::MIN, f32::max);
+        s.pair((most <= ceiling) as u64, 1, input);
+        run[passes] += 1;
+        reached[passes] += (most == ceiling) as u64;
+        open_above += (kind == 2 && score > ceiling) as u64;
+        rising += copy.tops.windows(2).any(|t| t[1] > t[0]) as u64;
         let all = || (0..states).flat_map(|p| (0..1usize << n).map(move |w| (p, w)));
         let greatest = all().map(|(p, w)| walk(p, w).0).fold(f32::MIN, f32::max);
         if kind == 0 && pass == 1 {
             met[1] += 1;
             s.pair((greatest <= score) as u64, 1, input);
+            s.pair(ceiling.to_bits() as u64, score.to_bits() as u64, input);
         }
         let best: Vec<_> = all().filter(|&(p, w)| walk(p, w).0 == greatest).collect();
         if let [(p, w)] = best[..] {
@@ -191,13 +359,26 @@ fn every_walk(wrong: &mut bool) {
         }
         met[3] += (kind == 2) as u64;
     }
+    // a ceiling lower by anything is found only where some word reaches it
+    (0..3).for_each(|p| s.pair((reached[p] > 0) as u64, 1, || format!("a ceiling that is reached after {} passes", p + 1)));
     print!("handed out as closed {}, out in pass 1 {}, a closed word beats every other walk {}, Open {}; ", met[0], met[1], met[2], met[3]);
+    print!("1, 2, 3 passes run {run:?}, the ceiling reached by a closed word {reached:?}, below an Open score {open_above}, tops that rise {rising}; ");
+    s.end(wrong);
+}
+
+fn exact_sums(wrong: &mut bool) {
+    let mut s = Section::new("exact sums");
+    exact::tried().into_iter().enumerate().for_each(|(i, (is, must))| s.pair(is as u64, must as u64, || format!("sum {i}")));
     s.end(wrong);
 }
 
 pub fn all(wrong: &mut bool, count: u64) {
+    exact_sums(wrong);
     refusals(wrong);
     every_walk(wrong);
     named(wrong);
+    states(wrong);
+    tellers(wrong);
+    lossy(wrong);
     headers(wrong, count);
 }

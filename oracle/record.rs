@@ -1,7 +1,7 @@
 // Writes recorded answers of the Rust to standard output, 17 bytes a record: for crates/vectors/stdin, or with the word
 // `series` fits and series of the tracker for crates/series/stdin, or with the word `boards` series of slips put on a board, by the model of board.rs, for
 // crates/board_series/stdin.
-use ion::phy_mfsk::hook::{Fmt, Kind, MfskMode, Terms, Tracker, air, code, decode_terms, decode_terms_told, blanked_frac, fit_drift, soft_terms, windows};
+use ion::phy_mfsk::hook::{Fmt, Kind, MfskMode, Terms, Told, Tracker, air, code, decode_terms, decode_terms_told, blanked_frac, fit_drift, soft_terms, windows};
 use board::Board;
 use slip::Slip;
 use std::io::Write;
@@ -230,12 +230,12 @@ fn vectors(put: Put) {
         for (k, kind) in [Kind::HeaderOnly, Kind::Data, Kind::Cue].into_iter().enumerate() {
             let first = 100 * m as u64 + 10 * k as u64;
             // besides, the first that closes in pass 3 and the first that stays Open
-            let late = (1000..).find(|&seed| decode_terms_told(&c, mode, kind, &terms(mode, kind, seed)).2 .1 == 3).unwrap();
-            let open = (1000..).find(|&seed| decode_terms_told(&c, mode, kind, &terms(mode, kind, seed)).2 .0 == 2).unwrap();
+            let late = (1000..).find(|&seed| decode_terms_told(&c, mode, kind, &terms(mode, kind, seed)).2.pass == 3).unwrap();
+            let open = (1000..).find(|&seed| decode_terms_told(&c, mode, kind, &terms(mode, kind, seed)).2.kind == 2).unwrap();
             for seed in (first..first + 8).chain([late, open]) {
                 let t = terms(mode, kind, seed);
                 let (bits, score) = decode_terms(&c, mode, kind, &t);
-                let (_, _, (how, pass, _)) = decode_terms_told(&c, mode, kind, &t);
+                let Told { kind: how, pass, .. } = decode_terms_told(&c, mode, kind, &t).2;
                 let word = bits.iter().rev().fold(0, |w, &b| w << 1 | b as u64);
                 for (part, answer) in [word, how as u64 + 16 * pass as u64, score.to_bits() as u64].into_iter().enumerate() {
                     put((64 + part + 3 * (k + 3 * m)) as u8, seed, answer);
@@ -278,6 +278,33 @@ fn vectors(put: Put) {
     }
     for z in [0, 1, 1234567, 1 << 63, u64::MAX] {
         put(7, z, air::mix64(z));
+    }
+    ceilings(put);
+}
+
+/// Document 02, #106: ceilings of headers as those of the codes 64 to 81, by the copy of `decode_tb`'s loop to which make.sh adds the tops. For each
+/// mode and kind ten seeds, the first from 2,000, 3,000 .. on that are as wanted: out in pass 1, 2 or 3, Kept or Open, with the ceiling as the score
+/// or not. Their terms are whole, so that the least top is the last.
+fn ceilings(put: Put) {
+    // kind and pass as told, and whether the ceiling is the score; of those out in pass 3, which are few, either
+    const WANTED: [(u8, u8, bool); 10] =
+        [(0, 1, true), (0, 2, true), (0, 2, false), (0, 3, false), (0, 3, false), (1, 0, true), (1, 0, false), (1, 0, false), (2, 0, false), (2, 0, false)];
+    let c = code();
+    for (m, mode) in [MfskMode::R0, MfskMode::R1].into_iter().enumerate() {
+        for (k, kind) in [Kind::HeaderOnly, Kind::Data, Kind::Cue].into_iter().enumerate() {
+            let mut wanted: Vec<_> = WANTED.into_iter().map(Some).collect();
+            for seed in 2000 + 1000 * (k + 3 * m) as u64.. {
+                if wanted.iter().all(Option::is_none) {
+                    break;
+                }
+                let (_, score, copy) = decode_terms_told(&c, mode, kind, &terms(mode, kind, seed));
+                let met = Some((copy.kind, copy.pass, copy.pass != 3 && copy.ceiling() == score));
+                if let Some(place) = wanted.iter_mut().find(|w| **w == met) {
+                    *place = None;
+                    put((82 + k + 3 * m) as u8, seed, copy.ceiling().to_bits() as u64);
+                }
+            }
+        }
     }
 }
 

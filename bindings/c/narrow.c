@@ -49,7 +49,7 @@ int main(void) {
     uint8_t bits[N], values[N], outcome, pass;
     uint64_t word = 0;
     uint16_t crc;
-    float score;
+    float score, ceiling;
     /* two fields of 16 bits and their CRC, the first bit of each highest */
     for (int j = 0; j < N - 16; j++)
         bits[j] = 0x01234567u >> (N - 17 - j) & 1;
@@ -63,7 +63,7 @@ int main(void) {
     for (int s = 0; s < N; s++)
         heard(terms + ION_TERMS * s, (uint64_t)s, values[s]);
     if (ion_read_header(ION_R1, ION_HEADER_ONLY, terms, N * ION_TERMS, scores, ION_STATES, next, ION_STATES, start, ION_STATES, decisions,
-                        N * ION_DECISIONS, &word, &outcome, &pass, &score) != 0)
+                        N * ION_DECISIONS, &word, &outcome, &pass, &score, &ceiling) != 0)
         return 1;
     int same = 1, good = 0, own = 0;
     for (int j = 0; j < N; j++) {

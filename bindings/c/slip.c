@@ -21,10 +21,11 @@ int main(void) {
     static uint64_t decisions[N * ION_DECISIONS];
     ion_slip told = {.mode = ION_R0, .kind = ION_CUE, .start = 48000, .segment = 7}, back = {0};
     uint8_t bytes[ION_SLIP] = {0}, as_it_was[ION_SLIP];
+    float ceiling; /* which a slip does not tell */
 
     /* all terms equal: word 0 closes in the first pass */
     if (ion_read_header(told.mode, told.kind, terms, N * ION_TERMS, scores, ION_STATES, next, ION_STATES, start, ION_STATES, decisions,
-                        N * ION_DECISIONS, &told.word, &told.outcome, &told.pass, &told.score) != 0)
+                        N * ION_DECISIONS, &told.word, &told.outcome, &told.pass, &told.score, &ceiling) != 0)
         return 1;
     if (ion_slip_to_bytes(&told, bytes, ION_SLIP) != 0 || ion_slip_from_bytes(&back, bytes, ION_SLIP) != 0)
         return 1;

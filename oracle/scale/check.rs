@@ -1,4 +1,5 @@
 // One input's comparisons. Every value and every lent list goes through here, so that a planted difference can be put before any of them.
+use crate::headers::Tops;
 use crate::rivals::Rivals;
 use std::fmt::Debug;
 
@@ -51,8 +52,10 @@ pub struct Check {
     /// Calls that were answered, by kind, and that were refused, by number: what the Rust or the table says.
     pub answers: [u64; KINDS],
     pub refused: [u64; NUMBERS],
-    /// Headers out in the first pass against a search in f64.
+    /// Headers against a search in f64.
     pub rivals: Rivals,
+    /// What their ceilings were the least of.
+    pub tops: Tops,
 }
 
 impl Check {

@@ -1,5 +1,6 @@
 // A header read against `decode_tb` over the same terms. Most inputs close in the first pass, which is what a receiver meets and what
-// costs least; the rest are chosen so that every outcome is met often.
+// costs least; the rest are chosen so that every outcome is met often. The ceiling, which the Rust has not, is held to the copy of `decode_tb`'s
+// loop to which make.sh adds the passes' tops, and in rivals.rs to a second search.
 use crate::check::Check;
 use crate::face::Header;
 use crate::inputs::{Dice, dirty, rows, sent_places, styled};
@@ -11,11 +12,55 @@ use ion::phy_mfsk::hook::{Fmt, decode_terms_told, windows};
 
 const OUTCOMES: &[&str] = &["Sure 1", "Sure 2", "Sure 3", "Kept", "Open"];
 
+/// Over all headers answered: how many were searched in 1, 2, 3 passes; of how many the ceiling is not the first pass's top, not the last one's,
+/// not the score (each must be met in a whole run, else one of these would pass for the least top); and of how many the score is above it.
+#[derive(Default, Clone, Copy)]
+pub struct Tops {
+    pub passes: [u64; 3],
+    pub not_first: u64,
+    pub not_last: u64,
+    pub not_score: u64,
+    pub score_above: u64,
+}
+
+impl Tops {
+    fn of(tops: &[f32], ceiling: f32, score: f32) -> Tops {
+        let mut passes = [0; 3];
+        passes[tops.len() - 1] = 1;
+        let other = |top: f32| (top != ceiling) as u64;
+        Tops { passes, not_first: other(tops[0]), not_last: other(tops[tops.len() - 1]), not_score: other(score), score_above: (score > ceiling) as u64 }
+    }
+    pub fn join(&mut self, o: &Tops) {
+        (0..3).for_each(|i| self.passes[i] += o.passes[i]);
+        self.not_first += o.not_first;
+        self.not_last += o.not_last;
+        self.not_score += o.not_score;
+        self.score_above += o.score_above;
+    }
+    pub fn line(&self) -> String {
+        format!(
+            "ceilings: {} after one pass, {} after two, {} after three; not the first top {}, not the last {}, not the score {}, below the score {}",
+            self.passes[0], self.passes[1], self.passes[2], self.not_first, self.not_last, self.not_score, self.score_above
+        )
+    }
+}
+
+/// What is answered of a header, as the Rust and the copy of its loop say it.
+pub struct Answered {
+    pub word: u64,
+    pub score: f32,
+    pub ceiling: f32,
+    pub passes: usize,
+    /// Out by closing in the first pass.
+    pub first: bool,
+}
+
 /// What is lent, with other bits in every place of it.
 fn lent(d: &mut Dice, lengths: [usize; 4]) -> Header {
     let mut list = |n| dirty(n, || d.word());
     let scores = [list(lengths[0]), list(lengths[1]), list(lengths[2])];
-    Header { scores, decisions: (0..lengths[3]).map(|_| d.word()).collect(), word: d.word(), outcome: 0xA5, pass: 0x5A, score: f32::from_bits(0x7f80_0001) }
+    let decisions = (0..lengths[3]).map(|_| d.word()).collect();
+    Header { scores, decisions, word: d.word(), outcome: 0xA5, pass: 0x5A, score: f32::from_bits(0x7f80_0001), ceiling: f32::from_bits(0xffc1_2345) }
 }
 
 /// Of several causes the first in the papers' order.
@@ -29,12 +74,11 @@ fn table(mode: u8, kind: u8, terms: &[f32], lengths: [usize; 4]) -> u32 {
     }
 }
 
-/// One header on both sides, with areas of these lengths: the number, the answer, every lent byte. Returns word and score of one that is out by
-/// closing in the first pass.
-pub fn read(o: &Oracle, c: &mut Check, d: &mut Dice, mode: u8, kind: u8, mut terms: Vec<f32>, lengths: [usize; 4]) -> Option<(u64, f32)> {
+/// One header on both sides, with areas of these lengths: the number, the answer, every lent byte. Returns what was answered.
+pub fn read(o: &Oracle, c: &mut Check, d: &mut Dice, mode: u8, kind: u8, mut terms: Vec<f32>, lengths: [usize; 4]) -> Option<Answered> {
     let (before, want) = (terms.clone(), table(mode, kind, &terms, lengths));
     let mut ours = lent(d, lengths);
-    let mut first = None;
+    let mut answered = None;
     let left = (want != 0).then(|| (ours.scores.clone(), ours.decisions.clone(), ours.word));
     c.one("number", &mut ours.read(mode, kind, &terms), want);
     if let Some((scores, decisions, word)) = left {
@@ -44,22 +88,30 @@ pub fn read(o: &Oracle, c: &mut Check, d: &mut Dice, mode: u8, kind: u8, mut ter
         c.one("outcome's place", &mut ours.outcome, 0xA5);
         c.one("pass's place", &mut ours.pass, 0x5A);
         c.one("score's place", &mut ours.score, f32::from_bits(0x7f80_0001));
+        c.one("ceiling's place", &mut ours.ceiling, f32::from_bits(0xffc1_2345));
         c.refused(want);
     } else {
-        let (bits, score, (outcome, pass, _)) = decode_terms_told(&o.code, MODES[mode as usize], KINDS[kind as usize], &rows(&before));
+        let (bits, score, copy) = decode_terms_told(&o.code, MODES[mode as usize], KINDS[kind as usize], &rows(&before));
+        let (outcome, pass, ceiling) = (copy.kind, copy.pass, copy.ceiling());
         let word = bits.iter().rev().fold(0u64, |w, &b| w << 1 | b as u64);
-        first = ((outcome, pass) == (0, 1)).then_some((word, score));
+        let first = (outcome, pass) == (0, 1);
         c.one("word", &mut ours.word, word);
         c.one("outcome", &mut ours.outcome, outcome);
         c.one("pass", &mut ours.pass, pass);
         c.one("score", &mut ours.score, score);
+        c.one("ceiling", &mut ours.ceiling, ceiling);
+        if first {
+            c.one("ceiling of the first pass, as its score", &mut ours.ceiling, score);
+        }
+        c.tops.join(&Tops::of(&copy.tops, ceiling, score));
+        answered = Some(Answered { word, score, ceiling: ours.ceiling, passes: copy.tops.len(), first });
         (0..3).for_each(|i| c.all(["scores", "next", "start"][i], &mut ours.scores[i], 0.0));
         c.all("decisions", &mut ours.decisions, 0);
         c.answered(match outcome { 0 => pass as usize - 1, k => 2 + k as usize });
     }
     c.list("the terms", &mut terms, &before);
     c.input(|| format!("mode {mode} kind {kind}, {} terms, areas of {lengths:?}, first terms {:?}", before.len(), &before[..before.len().min(6)]));
-    first
+    answered
 }
 
 /// Mode and kind: seven of eight headers have 48 symbols, which cost less.
@@ -88,10 +140,10 @@ fn by_channel(o: &Oracle, d: &mut Dice, i: u64, c: &mut Check) {
     read_and_rank(o, c, d, mode, kind, terms)
 }
 
-/// The same with areas as they should be, and one that is out in the first pass against the search in f64.
+/// The same with areas as they should be, against the search in f64: the ceiling, and a word that is out in the first pass.
 fn read_and_rank(o: &Oracle, c: &mut Check, d: &mut Dice, mode: u8, kind: u8, terms: Vec<f32>) {
-    if let Some((word, score)) = read(o, c, d, mode, kind, terms.clone(), Header::lengths(header_bits(kind))) {
-        rivals::hold(c, mode, &terms, word, score);
+    if let Some(answered) = read(o, c, d, mode, kind, terms.clone(), Header::lengths(header_bits(kind))) {
+        rivals::hold(c, mode, &terms, answered);
     }
 }
 

@@ -1,5 +1,6 @@
 // A job is one entry with one source of inputs, drawn by their index: the same seed, job and index give the same input whatever the threads.
 use crate::check::{Check, KINDS, NUMBERS};
+use crate::headers::Tops;
 use crate::inputs::Dice;
 use crate::rivals::Rivals;
 use ion::fec::conv::ConvCode;
@@ -60,6 +61,7 @@ pub struct Tally {
     pub differ: u64,
     pub first: Option<(u64, String)>,
     pub rivals: Rivals,
+    pub tops: Tops,
 }
 
 impl Tally {
@@ -70,6 +72,7 @@ impl Tally {
         self.numbers += c.numbers;
         self.turned += c.turned as u64;
         self.rivals.join(&c.rivals);
+        self.tops.join(&c.tops);
         if let Some(why) = c.bad {
             self.differ += 1;
             if self.first.as_ref().is_none_or(|f| index < f.0) {
@@ -85,6 +88,7 @@ impl Tally {
         self.turned += o.turned;
         self.differ += o.differ;
         self.rivals.join(&o.rivals);
+        self.tops.join(&o.tops);
         if let Some(f) = o.first {
             if self.first.as_ref().is_none_or(|g| f.0 < g.0) {
                 self.first = Some(f);

@@ -25,6 +25,7 @@ mod soft;
 mod table;
 mod tracker;
 
+use headers::Tops;
 use jobs::{Job, Oracle, Progress, Tally, run};
 use std::process::exit;
 
@@ -140,8 +141,16 @@ fn main() {
     progress.end();
     table::print(&done);
     println!("(a tracker's inputs are series or states, random slips are put in series; their answers and refusals are calls)");
-    for (job, t) in done.iter().filter(|(_, t)| t.rivals.out > 0) {
+    for (job, t) in done.iter().filter(|(_, t)| t.rivals.held > 0) {
         println!("{}, {}", job.name(), t.rivals.line());
+    }
+    let mut tops = Tops::default();
+    done.iter().for_each(|(_, t)| tops.join(&t.tops));
+    if tops.passes != [0; 3] {
+        println!("{}", tops.line());
+    }
+    if a.share >= 100.0 && a.only.is_none() && [tops.not_first, tops.not_last, tops.not_score].contains(&0) {
+        wrong.push("no ceiling was met that is not the first pass's top, or not the last one's, or not the score".into());
     }
     // the counts are what they should be
     for (job, t) in &done {

@@ -4,6 +4,7 @@ use super::super::model::{self, Params, local_noise};
 use super::super::{Active, EXT, Energies, Grid, Known, LLR_MAX, MfskRx, NE, gi};
 use super::{METRIC_FLOOR, TBLOCK, TD};
 use crate::fec::conv::ConvCode;
+pub use crate::fec::conv::Told;
 pub use crate::phy_mfsk::MfskMode;
 pub use crate::phy_mfsk::frame::{Fmt, Kind};
 use crate::phy_mfsk::{SYM, conv, frame};
@@ -33,8 +34,8 @@ pub fn decode_terms(c: &ConvCode, mode: MfskMode, kind: Kind, terms: &[Terms]) -
     let fmt = Fmt::of(mode);
     c.decode_tb(frame::header_steps(fmt, kind), 3, &mut |j, m| step_metrics(fmt, kind, terms, j, m))
 }
-/// The same by the copy of its loop, which tells besides how the word came.
-pub fn decode_terms_told(c: &ConvCode, mode: MfskMode, kind: Kind, terms: &[Terms]) -> (Vec<u8>, f32, (u8, u8, u8)) {
+/// The same by the copy of its loop, which tells besides how the word came, and the passes' tops, which are not the Rust's.
+pub fn decode_terms_told(c: &ConvCode, mode: MfskMode, kind: Kind, terms: &[Terms]) -> (Vec<u8>, f32, Told) {
     let fmt = Fmt::of(mode);
     c.decode_tb_told(frame::header_steps(fmt, kind), 3, &mut |j, m| step_metrics(fmt, kind, terms, j, m))
 }

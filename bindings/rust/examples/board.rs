@@ -2,14 +2,14 @@
 //! kept as bytes and taken up again. From the repository's root:
 //!   rt staticlib ion
 //!   cargo run --offline --manifest-path bindings/rust/Cargo.toml --target-dir target/rust --example board
-use ion_proved::{Board, Header, Kind, Mode, Outcome, Refusal, SEGMENTS, Slip};
+use ion_proved::{Board, Kind, Mode, Outcome, Refusal, SEGMENTS, Slip};
 
 const SURE: Outcome = Outcome::Sure { score: 1.0, pass: 1 };
 const KEPT: Outcome = Outcome::Kept { score: 1.0 };
 const OPEN: Outcome = Outcome::Open { score: 1.0 };
 
 fn slip(segment: u16, start: u64, outcome: Outcome) -> Slip {
-    Slip { mode: Mode::R0, kind: Kind::Cue, header: Header { word: 0, outcome }, start, segment }
+    Slip { mode: Mode::R0, kind: Kind::Cue, word: 0, outcome, start, segment }
 }
 
 fn main() -> Result<(), Refusal> {
@@ -19,7 +19,7 @@ fn main() -> Result<(), Refusal> {
     let then = [slip(9, 48_000, SURE), slip(4, 52_000, KEPT), slip(4, 52_000, OPEN)];
     first.iter().chain(&then).try_for_each(|s| board.put_slip(s))?;
     for slip in board.slips() {
-        println!("segment {} start {} {:?}", slip.segment, slip.start, slip.header.outcome);
+        println!("segment {} start {} {:?}", slip.segment, slip.start, slip.outcome);
     }
     assert!(board.slips().eq([slip(4, 52_000, KEPT), slip(9, 56_000, KEPT), slip(12, 50_000, OPEN)]));
 

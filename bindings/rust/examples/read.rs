@@ -1,4 +1,4 @@
-//! Sends a header, reads it back from clean terms and shows a refusal. From the repository's root:
+//! Sends a header, reads it back from clean terms, reads one that hardly anything was heard of, and shows a refusal. From the repository's root:
 //!   rt staticlib ion
 //!   cargo run --offline --manifest-path bindings/rust/Cargo.toml --target-dir target/rust --example read
 use ion_proved::{Areas, Kind, Mode, Outcome, Refusal, TERMS, header_values, read_header};
@@ -11,6 +11,12 @@ fn mix64(x: u64) -> u64 {
     z ^ (z >> 31)
 }
 
+/// Where symbol s has the term of this value: row 2, at the place of the value's bin.
+fn place(s: usize, value: u8) -> usize {
+    let bin = (mix64(s as u64 ^ 0x4D46_534B_484F_5000) % 48 + u64::from(value)) % 48;
+    TERMS * s + 104 + bin as usize + 2
+}
+
 fn main() -> Result<(), Refusal> {
     let (mode, kind, word) = (Mode::R0, Kind::Data, 0x0123_4567_89AB_CDEF_u64);
     let n = kind.header();
@@ -18,16 +24,21 @@ fn main() -> Result<(), Refusal> {
     let mut values = vec![0; n];
     header_values(mode, kind, &bits, &mut values)?;
 
-    // row 2, at the place of each value's bin
     let mut terms = vec![0.0; n * TERMS];
-    for (s, &value) in values.iter().enumerate() {
-        let bin = (mix64(s as u64 ^ 0x4D46_534B_484F_5000) % 48 + u64::from(value)) % 48;
-        terms[TERMS * s + 104 + bin as usize + 2] = 8.0;
-    }
+    values.iter().enumerate().for_each(|(s, &value)| terms[place(s, value)] = 8.0);
     let mut areas = Areas::new();
     let header = read_header(mode, kind, &terms, &mut areas)?;
-    println!("sent {word:016x}, read {:016x}, {:?}", header.word, header.outcome);
+    println!("sent {word:016x}, read {:016x}, {:?}, ceiling {}", header.word, header.outcome, header.ceiling);
     assert_eq!((header.word, header.outcome), (word, Outcome::Sure { score: 8.0 * n as f32, pass: 1 }));
+    assert_eq!(header.ceiling, 8.0 * n as f32);
+
+    // ten values in as many slots and nothing else: out in the second pass, below the ceiling, so that it may be beaten
+    let mut few = vec![0.0; 48 * TERMS];
+    let values = [(5, 1), (19, 10), (16, 10), (10, 22), (41, 10), (21, 20), (26, 4), (3, 10), (34, 30), (17, 5)];
+    values.into_iter().for_each(|(s, value)| few[place(s, value)] = 1.0);
+    let header = read_header(mode, Kind::HeaderOnly, &few, &mut areas)?;
+    println!("of ten values read {:012x}, {:?}, ceiling {}: no closed word scores above that", header.word, header.outcome, header.ceiling);
+    assert_eq!((header.word, header.outcome, header.ceiling), (0x9D49_8A10_6EBE, Outcome::Sure { score: 9.0, pass: 2 }, 10.0));
 
     terms[7] = 1e7;
     let refused = read_header(mode, kind, &terms, &mut areas).unwrap_err();

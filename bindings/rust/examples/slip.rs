@@ -8,7 +8,8 @@ fn main() -> Result<(), Refusal> {
     let (mode, kind) = (Mode::R0, Kind::Cue);
     // all terms equal: word 0 closes in the first pass
     let header = read_header(mode, kind, &vec![0.0; kind.header() * TERMS], &mut Areas::new())?;
-    let slip = Slip { mode, kind, header, start: 48_000, segment: 7 };
+    // of the answer a slip has the word and the outcome, not the ceiling
+    let slip = Slip { mode, kind, word: header.word, outcome: header.outcome, start: 48_000, segment: 7 };
     let bytes = slip.to_bytes()?;
     println!("slip {}", bytes.iter().map(|b| format!("{b:02x}")).collect::<String>());
     println!("read back: {:?}", Slip::from_bytes(&bytes)?);
@@ -16,7 +17,7 @@ fn main() -> Result<(), Refusal> {
 
     // Sure in pass 4, which no slip holds
     let mut unlawful = slip;
-    unlawful.header.outcome = Outcome::Sure { score: 0.0, pass: 4 };
+    unlawful.outcome = Outcome::Sure { score: 0.0, pass: 4 };
     assert_eq!(unlawful.to_bytes(), Err(Refusal::Slip));
     // a byte too few; and every byte damaged in one bit: what is still a slip is another one, written as just these bytes
     assert_eq!(Slip::from_bytes(&bytes[..43]), Err(Refusal::Slip));

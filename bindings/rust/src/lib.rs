@@ -28,7 +28,7 @@ mod sys {
         pub fn ion_read_header(
             mode: u8, kind: u8, terms: *const f32, terms_len: usize, scores: *mut f32, scores_len: usize, next: *mut f32, next_len: usize,
             start: *mut f32, start_len: usize, decisions: *mut u64, decisions_len: usize, word: *mut u64, outcome: *mut u8, pass: *mut u8,
-            score: *mut f32,
+            score: *mut f32, ceiling: *mut f32,
         ) -> u32;
         pub fn ion_soft_values(
             mode: u8, kind: u8, layout: u8, symbols: u8, window: u32, bits: u32, terms: *const f32, terms_len: usize, blanked: *const u32,
@@ -50,16 +50,16 @@ mod sys {
             start: *mut u64, segment: *mut u16,
         ) -> u32;
         pub fn ion_put_slip(board: *mut u8, board_len: usize, count: *mut u32, slip: *const u8, slip_len: usize) -> u32;
-        pub fn ion_version_105() -> u32;
+        pub fn ion_version_106() -> u32;
     }
 }
 
 /// The number of the last change request that is in; 0 is the base. The library has it in a symbol's name, so a library of another
 /// version does not link.
-pub const VERSION: u32 = 105;
+pub const VERSION: u32 = 106;
 
 #[used]
-static VERSION_LINKED: unsafe extern "C" fn() -> u32 = sys::ion_version_105;
+static VERSION_LINKED: unsafe extern "C" fn() -> u32 = sys::ion_version_106;
 
 /// Terms of a symbol: five rows of 52.
 pub const TERMS: usize = 260;
@@ -300,11 +300,25 @@ impl Outcome {
     }
 }
 
-/// A header as read: bit j of the header at place j from the lowest.
+/// A header as read: bit j of the header at place j from the lowest, how it was found, and the ceiling, which tells how good any word could
+/// have been.
+///
+/// For each pass that the search ran (at most three; one that closes ends it) take from each of the 16,384 states its score at the end less
+/// the same state's score at the start of the pass, in f32, and of these the greatest; the ceiling is the least of them over the passes.
+///
+/// Proved: for whole terms from -800 to 800 no closed word of that length scores above it, whether one pass was run, two or three, so a Sure
+/// or a Kept with the ceiling as its score is beaten by no closed word. Of a word that is out by closing in pass 1 it is the score, bit for
+/// bit, for any terms that are not refused. For terms within ±2^a, a from 0 to 20, no closed word's exact score is above it by more than
+/// 2^(a-8).
+///
+/// It is a bound and no more: it need not be reached by any word, so a score below it does not say that there is a better word. An Open
+/// word is not closed, and its score may lie above the ceiling; for terms that are not whole, so may the score of a Kept and of a Sure in
+/// pass 2 or 3, by rounding.
 #[derive(Clone, Copy, Debug, PartialEq)]
 pub struct Header {
     pub word: u64,
     pub outcome: Outcome,
+    pub ceiling: f32,
 }
 
 /// The work areas of [`read_header`], made once and lent to every read, of either length.
@@ -420,6 +434,7 @@ pub fn interleave_sym(symbols: &[u8], values: &mut [u8]) -> Result<(), Refusal> 
 /// // all terms equal: word 0 closes in the first pass
 /// let header = read_header(Mode::R0, Kind::Cue, &terms, &mut areas).unwrap();
 /// assert_eq!((header.word, header.outcome), (0, Outcome::Sure { score: 0.0, pass: 1 }));
+/// assert_eq!(header.ceiling, 0.0);
 /// terms[5] = f32::NAN;
 /// assert_eq!(read_header(Mode::R0, Kind::Cue, &terms, &mut areas), Err(Refusal::Term));
 /// // terms of a header with 48 symbols, where there should be 64
@@ -430,46 +445,48 @@ pub fn interleave_sym(symbols: &[u8], values: &mut [u8]) -> Result<(), Refusal> 
 pub fn read_header(mode: Mode, kind: Kind, terms: &[f32], areas: &mut Areas) -> Result<Header, Refusal> {
     let Areas { scores, next, start, decisions } = areas;
     let decisions = &mut decisions[..kind.header() * DECISIONS];
-    let (mut word, mut outcome, mut pass, mut score) = (0, 0, 0, 0.0);
-    // SAFETY: every slice is told with its own length; they and the four places cannot overlap.
+    let (mut word, mut outcome, mut pass, mut score, mut ceiling) = (0, 0, 0, 0.0, 0.0);
+    // SAFETY: every slice is told with its own length; they and the five places cannot overlap.
     Refusal::told(unsafe {
         sys::ion_read_header(
             mode as u8, kind as u8, terms.as_ptr(), terms.len(), scores.as_mut_ptr(), scores.len(), next.as_mut_ptr(), next.len(),
             start.as_mut_ptr(), start.len(), decisions.as_mut_ptr(), decisions.len(), &mut word, &mut outcome, &mut pass, &mut score,
+            &mut ceiling,
         )
     })?;
-    Ok(Header { word, outcome: Outcome::named(outcome, pass, score) })
+    Ok(Header { word, outcome: Outcome::named(outcome, pass, score), ceiling })
 }
 
-/// What the shed computer is told of a burst: its header as read, with mode and kind, the sample at which the burst starts, and its
-/// segment's number. It is written as [`SLIP`] bytes: six fields, each a tag of one byte, a length of two and the value, every number with
-/// its highest byte first. It has neither the layout nor a verdict on the word's CRC, which [`crc`] tells in the layout in use.
+/// What the shed computer is told of a burst: its header's word and outcome as read, with mode and kind, the sample at which the burst starts,
+/// and its segment's number. It is written as [`SLIP`] bytes: six fields, each a tag of one byte, a length of two and the value, every number
+/// with its highest byte first. It has neither the layout nor the ceiling, nor a verdict on the word's CRC, which [`crc`] tells in the layout
+/// in use.
 ///
 /// Proved: [`Slip::from_bytes`] reads a string of bytes exactly where some slip is written as it, and as that slip, so no two strings are
 /// one slip; and every answer of [`read_header`] can be written, with any start and segment. A score of -0.0 has bytes of its own, though
 /// it equals 0.0 as a number.
 ///
 /// ```
-/// use ion_proved::{Header, Kind, Mode, Outcome, Refusal, SLIP, Slip};
-/// let header = Header { word: 0xC0_0000_0000, outcome: Outcome::Kept { score: 1.0 } };
-/// let slip = Slip { mode: Mode::R0, kind: Kind::HeaderOnly, header, start: 48_000, segment: 7 };
+/// use ion_proved::{Kind, Mode, Outcome, Refusal, SLIP, Slip};
+/// let (word, outcome) = (0xC0_0000_0000, Outcome::Kept { score: 1.0 });
+/// let slip = Slip { mode: Mode::R0, kind: Kind::HeaderOnly, word, outcome, start: 48_000, segment: 7 };
 /// let bytes = slip.to_bytes()?;
 /// assert_eq!(bytes[8..19], [3, 0, 8, 0, 0, 0, 0xC0, 0, 0, 0, 0]);
 /// assert_eq!(Slip::from_bytes(&bytes), Ok(slip));
 /// assert_eq!(Slip::from_bytes(&bytes[..SLIP - 1]), Err(Refusal::Slip));
 ///
 /// // a word of 48 bits has zeros above them, and a score is finite
-/// let header = Header { word: 1 << 48, ..header };
-/// assert_eq!(Slip { header, ..slip }.to_bytes(), Err(Refusal::Slip));
-/// let header = Header { word: 0, outcome: Outcome::Open { score: f32::INFINITY } };
-/// assert_eq!(Slip { header, ..slip }.to_bytes(), Err(Refusal::Slip));
+/// assert_eq!(Slip { word: 1 << 48, ..slip }.to_bytes(), Err(Refusal::Slip));
+/// let outcome = Outcome::Open { score: f32::INFINITY };
+/// assert_eq!(Slip { outcome, ..slip }.to_bytes(), Err(Refusal::Slip));
 /// # Ok::<(), Refusal>(())
 /// ```
 #[derive(Clone, Copy, Debug, PartialEq)]
 pub struct Slip {
     pub mode: Mode,
     pub kind: Kind,
-    pub header: Header,
+    pub word: u64,
+    pub outcome: Outcome,
     pub start: u64,
     pub segment: u16,
 }
@@ -477,12 +494,12 @@ pub struct Slip {
 impl Slip {
     /// Its bytes; [`Refusal::Slip`] where the word has bits above its own, the score is not finite, or a Sure's pass is not from 1 to 3.
     pub fn to_bytes(&self) -> Result<[u8; SLIP], Refusal> {
-        let (outcome, pass, score) = self.header.outcome.numbers();
+        let (outcome, pass, score) = self.outcome.numbers();
         let mut bytes = [0; SLIP];
         // SAFETY: the array is told with its own length.
         Refusal::told(unsafe {
             sys::ion_write_slip(
-                self.mode as u8, self.kind as u8, self.header.word, outcome, pass, score, self.start, self.segment, bytes.as_mut_ptr(), SLIP,
+                self.mode as u8, self.kind as u8, self.word, outcome, pass, score, self.start, self.segment, bytes.as_mut_ptr(), SLIP,
             )
         })?;
         Ok(bytes)
@@ -499,7 +516,7 @@ impl Slip {
         })?;
         let mode = if mode == 0 { Mode::R0 } else { Mode::R1 };
         let kind = [Kind::HeaderOnly, Kind::Data, Kind::Cue][kind as usize];
-        Ok(Slip { mode, kind, header: Header { word, outcome: Outcome::named(outcome, pass, score) }, start, segment })
+        Ok(Slip { mode, kind, word, outcome: Outcome::named(outcome, pass, score), start, segment })
     }
 }
 
@@ -511,11 +528,11 @@ impl Slip {
 /// [`SEGMENTS`] are.
 ///
 /// ```
-/// use ion_proved::{BOARD, Header, Kind, Mode, Outcome, Refusal, SLIP, Slip, put_slip};
+/// use ion_proved::{BOARD, Kind, Mode, Outcome, Refusal, SLIP, Slip, put_slip};
 /// // whatever the places hold: none is listed
 /// let (mut board, mut count) = (vec![0xA5; BOARD], 0);
-/// let header = Header { word: 0, outcome: Outcome::Open { score: 0.0 } };
-/// let slip = Slip { mode: Mode::R0, kind: Kind::Cue, header, start: 0, segment: 7 }.to_bytes()?;
+/// let outcome = Outcome::Open { score: 0.0 };
+/// let slip = Slip { mode: Mode::R0, kind: Kind::Cue, word: 0, outcome, start: 0, segment: 7 }.to_bytes()?;
 /// put_slip(&mut board, &mut count, &slip)?;
 /// assert_eq!((&board[..SLIP], count), (&slip[..], 1));
 /// assert!(board[SLIP..].iter().all(|&b| b == 0xA5));
@@ -542,8 +559,8 @@ pub fn put_slip(board: &mut [u8], count: &mut u32, slip: &[u8]) -> Result<(), Re
 /// come are listed.
 ///
 /// ```
-/// use ion_proved::{Board, Header, Kind, Mode, Outcome, Refusal, SEGMENTS, Slip};
-/// let slip = |segment, start, outcome| Slip { mode: Mode::R0, kind: Kind::Cue, header: Header { word: 5, outcome }, start, segment };
+/// use ion_proved::{Board, Kind, Mode, Outcome, Refusal, SEGMENTS, Slip};
+/// let slip = |segment, start, outcome| Slip { mode: Mode::R0, kind: Kind::Cue, word: 5, outcome, start, segment };
 /// let (sure, kept) = (Outcome::Sure { score: 1.0, pass: 3 }, Outcome::Kept { score: 9.0 });
 /// let mut board = Board::new();
 /// board.put_slip(&slip(7, 48_000, kept))?;
@@ -589,9 +606,9 @@ impl Board {
     /// judgement: on a copy the first listed slip is put again, which changes nothing on a good board.
     ///
     /// ```
-    /// use ion_proved::{BOARD, Board, Header, Kind, Mode, Outcome, Refusal, SLIP, Slip};
-    /// let header = Header { word: 0, outcome: Outcome::Open { score: 0.0 } };
-    /// let slip = |segment| Slip { mode: Mode::R0, kind: Kind::Cue, header, start: 0, segment };
+    /// use ion_proved::{BOARD, Board, Kind, Mode, Outcome, Refusal, SLIP, Slip};
+    /// let outcome = Outcome::Open { score: 0.0 };
+    /// let slip = |segment| Slip { mode: Mode::R0, kind: Kind::Cue, word: 0, outcome, start: 0, segment };
     /// let mut board = Board::new();
     /// board.put_slip(&slip(7))?;
     /// board.put_slip(&slip(3))?;

@@ -1,22 +1,25 @@
 -- THE CEILING (document 02, #106). It is the top of one of the passes, so what holds of every pass's top holds of it. Out by closing in the first
 -- pass it is the score. Where sums can be taken back, no closed word scores above any pass's top: its walk ends in the state in which it
 -- starts, so that state's gain is at least its score, whatever the start scores. Assumes nothing.
-use Prim.Native.Nat.{ℕ, zero, suc, _^_, _≤_}
+use Prim.Native.Nat.{ℕ, zero, suc, _%_, _^_, _≤_, _<_}
 use mathlib.Core.Path.{_≡_, sym, ap, _∙_, subst, subst₂}
 use mathlib.Core.Bool.{Bool, true, false}
 use native.Mathlib.Omega.{arith}
-use lib.IntN.{ℤ}
+use lib.Pow.{pow-pos}
+use lib.IntN.{ℤ, negℤ, _+ℤ_, _-ℤ_, +ℤ-comm, +ℤ-negℤ-cancel}
 use lib.Signed.{_≤ℤ_}
 use Rattle.util.specs.Choose.{choose}
-use Rattle.conv.specs.Encoder.{made, bit}
+use Rattle.ieee.proofs.Integers.{+ℤ-swap}
+use Rattle.conv.specs.Encoder.{state, made, bit}
 use Rattle.conv.proofs.Closed.{made-below, closed}
-use Rattle.trellis.specs.Trellis.{Trellis, closedScore}
-use Rattle.trellis.specs.Search.{closing, Found, final, endState, gainOf, topOf, begin, last, ceilingTo, ceiling, search}
+use Rattle.trellis.specs.Trellis.{Trellis, walkScore, closedScore}
+use Rattle.trellis.specs.Search.{closing, Found, decision, final, endState, startOf, wordOf, gainOf, topOf, lowered, begin, last, ceilingTo}
+use Rattle.trellis.specs.Search.{ceiling, search}
 use Rattle.trellis.specs.Numbers.{whole}
-use Rattle.trellis.proofs.Paths.{bit-lt}
-use Rattle.trellis.proofs.Best.{Ranked, scores-ok, no-walk-above, highest-le, highest-same}
+use Rattle.trellis.proofs.Paths.{bit-lt, trace-start-lt, trace-state}
+use Rattle.trellis.proofs.Best.{Ranked, attained, scores-ok, no-walk-above, highest-le, highest-lt, highest-same}
 use Rattle.trellis.proofs.Handed.{last-most, first-last, first-out, first-closes, along-from}
-use Rattle.trellis.proofs.Integers.{≤ℤ-trans, ≤ℤ-add, group, ranked}
+use Rattle.trellis.proofs.Integers.{≤ℤ-trans, ≤ℤ-add, ≤ℤ-less, group, ranked}
 
 module _ {A : Type 0} (X : Trellis A) where
   module _ (P : A → Type 0) (each : (k : ℕ) → k ≤ 2 → P (topOf X (begin X k))) where
@@ -53,15 +56,48 @@ module _ (K n : ℕ) (long : K ≤ n) (earn : ℕ → ℕ → ℤ) where
   abbrev Y : Trellis ℤ
   Y = record { scale = whole; states = 2 ^ K; steps = n; earn = earn }
 
-  -- from any start scores
+  -- from any start scores: what a walk earns is at most what the end score of its last state has above the start score of its first,
+  walk-below : (f : ℕ → ℤ) {p q : ℕ} → p < 2 ^ K → (w : ℕ) → state (2 ^ K) p (bit w) n ≡ q → walkScore Y p w ≤ℤ (final Y f q -ℤ f p)
+  walk-below f {p} {q} h w ends =
+      ≤ℤ-less (f p) (final Y f q) (walkScore Y p w)
+      (subst₂ _≤ℤ_ (along-from Y group (f p) p w n) (ap (final Y f) ends) (no-walk-above Y ranked f (λ s l. tt) h w n (omega arith)))
+
+  -- and a state's gain at most the top
+  gain-below : (f : ℕ → ℤ) {s : ℕ} → s < 2 ^ K → gainOf Y f s ≤ℤ topOf Y f
+  gain-below f h = highest-le {X = Y} ranked {j = 0} (gainOf Y f) (2 ^ K) (record { at = λ s l. tt }) h
+
   word-below : (f : ℕ → ℤ) (w : ℕ) → closedScore Y K w ≤ℤ topOf Y f
   word-below f w =
-      let p = made (bit w) n K in
-      let p-lt = made-below (bit w) (bit-lt w) n K in
-      let ends = ap (final Y f) (closed (bit w) (bit-lt w) K n long) in
-      let counted = subst₂ _≤ℤ_ (along-from Y group (f p) p w n) ends (no-walk-above Y ranked f (λ s l. tt) p-lt w n (omega arith)) in
-      let gained = subst (λ (x : ℤ). x ≤ℤ gainOf Y f p) (group .add-sub (f p) (closedScore Y K w)) (≤ℤ-add _ counted) in
-      ≤ℤ-trans gained (highest-le {X = Y} ranked {j = 0} (gainOf Y f) (2 ^ K) (record { at = λ s l. tt }) p-lt)
+      let h = made-below (bit w) (bit-lt w) n K in
+      ≤ℤ-trans (walk-below f h w (closed (bit w) (bit-lt w) K n long)) (gain-below f h)
 
   pub none-above : (w : ℕ) → closedScore Y K w ≤ℤ ceiling Y
   none-above w = ceiling-each Y (λ x. closedScore Y K w ≤ℤ x) (λ k h. word-below (begin Y k) w)
+
+  -- ---- no pass's top is above that of the one before, so the last is the least (at f32 rounding can raise one: Runs)
+
+  -- P and S are end scores of the pass before, F the start score that goes with P there: all are lowered by c, and W is earned from P to S
+  lowered-gain : (P S F c W : ℤ) → W ≤ℤ (S -ℤ F) → ((P -ℤ c +ℤ W) -ℤ (S -ℤ c)) ≤ℤ (P -ℤ F)
+  lowered-gain P S F c W h =
+      let moved : (P -ℤ c +ℤ W) ≤ℤ (P -ℤ F +ℤ (S -ℤ c)) =
+      subst₂ _≤ℤ_ (+ℤ-comm W (P -ℤ c))
+      (+ℤ-comm (S -ℤ F) (P -ℤ c) ∙ +ℤ-swap P (negℤ c) S (negℤ F) ∙ ap (λ (x : ℤ). P +ℤ S +ℤ x) (+ℤ-comm (negℤ c) (negℤ F))
+      ∙ sym (+ℤ-swap P (negℤ F) S (negℤ c))) (≤ℤ-add (P -ℤ c) h) in
+      subst (λ (x : ℤ). ((P -ℤ c +ℤ W) -ℤ (S -ℤ c)) ≤ℤ x) (+ℤ-negℤ-cancel (P -ℤ F) (S -ℤ c)) (≤ℤ-add (negℤ (S -ℤ c)) moved)
+
+  -- the walk that is traced back from s was there for the pass before as well
+  gain-falls : (even : 2 ^ K % 2 ≡ 0) (f : ℕ → ℤ) {s : ℕ} → s < 2 ^ K → gainOf Y (lowered Y f) s ≤ℤ topOf Y f
+  gain-falls even f {s} h =
+      let p = startOf Y (lowered Y f) s in
+      let w = wordOf Y (lowered Y f) s in
+      let p-lt = trace-start-lt even (decision Y (lowered Y f)) n h in
+      let was = walk-below f p-lt w (trace-state (2 ^ K) even (decision Y (lowered Y f)) n h) in
+      let is = sym (along-from Y group (lowered Y f p) p w n) ∙ attained Y even (lowered Y f) n h in
+      ≤ℤ-trans
+      (subst (λ (x : ℤ). (x -ℤ lowered Y f s) ≤ℤ gainOf Y f p) is
+      (lowered-gain (final Y f p) (final Y f s) (f p) (final Y f (endState Y f)) (walkScore Y p w) was))
+      (gain-below f p-lt)
+
+  pub tops-fall : 2 ^ K % 2 ≡ 0 → (k : ℕ) → topOf Y (begin Y (suc k)) ≤ℤ topOf Y (begin Y k)
+  unfolding begin
+  tops-fall even k = gain-falls even (begin Y k) (highest-lt whole (gainOf Y (begin Y (suc k))) (2 ^ K) (pow-pos K))

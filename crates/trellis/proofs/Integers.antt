@@ -88,9 +88,9 @@ pub ≤ℤ-apart : (a b c d : ℤ) (m n : ℕ) → (a +ℤ c) ≤ℤ (b +ℤ d) 
 +ℤ-take : (a b : ℤ) → (a +ℤ b) -ℤ a ≡ b
 +ℤ-take a b = ap (λ (x : ℤ). x -ℤ a) (+ℤ-comm a b) ∙ +ℤ-negℤ-cancel b a
 
--- what is added to a comes to at most b, but for c; then it is at most what b has above a
-pub ≤ℤ-less : (a b c x : ℤ) → (a +ℤ x +ℤ c) ≤ℤ b → (x +ℤ c) ≤ℤ (b -ℤ a)
-≤ℤ-less a b c x h = subst (λ (z : ℤ). z ≤ℤ (b -ℤ a)) (ap (λ (z : ℤ). z -ℤ a) (+ℤ-assoc a x c) ∙ +ℤ-take a (x +ℤ c)) (≤ℤ-add (negℤ a) h)
+-- what is added to a and comes to at most b is at most what b has above a
+pub ≤ℤ-less : (a b x : ℤ) → (a +ℤ x) ≤ℤ b → x ≤ℤ (b -ℤ a)
+≤ℤ-less a b x h = subst (λ (z : ℤ). z ≤ℤ (b -ℤ a)) (+ℤ-take a x) (≤ℤ-add (negℤ a) h)
 
 pub group : Group whole
 group = record { add-nil = +ℤ-idr; add-assoc = +ℤ-assoc; add-sub = +ℤ-take }

@@ -51,7 +51,7 @@ in-units {x} h F = units-grid (grid-fits binary32 x h F)
 -- from a chain at most b and b less its start at most t, but for c and d: what the chain adds is at most t and both
 above-by : (x s b t c d : ℤ) (m n q : ℕ) → (s +ℤ x +ℤ c) ≤ℤ b → (b -ℤ s +ℤ d) ≤ℤ t → natAbs c ≤ m → natAbs d ≤ n → m + n ≤ q → x ≤ℤ (t +ℤ pos q)
 above-by x s b t c d m n q h k i j l =
-    let both : (x +ℤ c +ℤ d) ≤ℤ t = ≤ℤ-trans (≤ℤ-add d (≤ℤ-less s b c x h)) k in
+    let both : (x +ℤ c +ℤ d) ≤ℤ t = ≤ℤ-trans (≤ℤ-add d (≤ℤ-less s b (x +ℤ c) (subst (λ (z : ℤ). z ≤ℤ b) (+ℤ-assoc s x c) h))) k in
     let zero-more : q + 0 ≡ q = omega arith in
     subst (λ (i : ℕ). x ≤ℤ (t +ℤ pos i)) zero-more
     (≤ℤ-apart x t (c +ℤ d) (pos 0) q 0 (subst₂ _≤ℤ_ (+ℤ-assoc x c d) (sym (+ℤ-idr t)) both) (le-trans (abs-add c d) (omega arith)) (omega arith))
