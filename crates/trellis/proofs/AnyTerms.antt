@@ -34,7 +34,7 @@ use Rattle.trellis.proofs.Sent.{sent-in-steps}
 use Rattle.trellis.proofs.Demand.{exact-first, optimal, unique, score-is, first-is, best-word, header-long}
 
 -- what a score can be after j steps of any pass: a value of f32 of at most 4480 terms and 5 more a step, each within 2^20 (no start score of the
--- three passes is above 4480 such: crate trellis, Answered)
+-- three passes is above 4480 such: Answered)
 pub record Earned (j : ℕ) (x : Float) : Type 0 where
   pub held : T (fits binary32 x)
   pub upto : Upto (4480 + 5 * j) 20 x

@@ -10,7 +10,7 @@ use lib.IntN.{ℤ, negℤ, _+ℤ_, _-ℤ_, +ℤ-comm, +ℤ-negℤ-cancel}
 use lib.Signed.{_≤ℤ_}
 use Rattle.util.specs.Choose.{choose}
 use Rattle.ieee.proofs.Integers.{+ℤ-swap}
-use Rattle.conv.specs.Encoder.{state, made, bit}
+use Rattle.conv.specs.Encoder.{state, bit}
 use Rattle.conv.proofs.Closed.{made-below, closed}
 use Rattle.trellis.specs.Trellis.{Trellis, walkScore, closedScore}
 use Rattle.trellis.specs.Search.{closing, Found, decision, final, endState, startOf, wordOf, gainOf, topOf, lowered, begin, last, ceilingTo}

@@ -2,15 +2,17 @@
 -- simulation. Assumes nothing.
 use Prim.Native.Nat.{ℕ, zero, suc, _*_, _%_, _^_, _≤_, _<_}
 use mathlib.Core.Path.{_≡_, refl, sym, ap, _∙_, subst}
+use mathlib.Core.Bool.{Bool, false, not}
 use mathlib.Core.List.{List}
 use native.Mathlib.Omega.{arith}
 use lib.Dec.{T, lit<, lit≤}
 use lib.ListN.{length}
 use lib.Pow.{pow-pos}
 use lib.IntN.{ℤ}
-use lib.Signed.{ltZ, _≤ℤ_}
+use lib.Signed.{ltZ, _≤ℤ_, ltZ-no}
 use lib.Ieee.{Float, lt}
 use Rattle.ieee.specs.Whole.{Whole}
+use Rattle.ieee.proofs.Sums.{lt-whole}
 use Rattle.frame.specs.Format.{headerBits}
 use Rattle.frame.proofs.Air.{header-least}
 use Rattle.conv.specs.Encoder.{made, bit}
@@ -26,7 +28,7 @@ use Rattle.trellis.specs.Demand.{walk, Another, BestWord, NoneAbove, Dem
 use Rattle.trellis.proofs.Paths.{bit-lt}
 use Rattle.trellis.proofs.Best.{Ranked}
 use Rattle.trellis.proofs.Handed.{Closing, Group, search-exact, first-exact, search-optimal, search-unique}
-use Rattle.trellis.proofs.Integers.{group, ranked}
+use Rattle.trellis.proofs.Integers.{≤ℤ-trans, group, ranked}
 use Rattle.trellis.proofs.Alike.{Same, SamePass}
 use Rattle.trellis.proofs.Exact.{Stands, Term, follows-whole}
 use Rattle.trellis.proofs.Metric.{header-pass, header-alike, header-ceiling, walk-alike}
@@ -164,3 +166,11 @@ module _ (mode kind : ℕ) (terms : List Float) (ints : ℕ → ℤ) (all : leng
         is = header-ceiling (follows-whole 3584000 (lit≤ tt)) mode kind 800 (lent terms) ints stand (lit≤ tt) .whole;
         none-above = λ w h. none-above 14 (headerBits kind) (header-long kind) earnZ w;
       }
+
+  -- so a word handed out as closed, in whichever pass, whose score is not below the ceiling is beaten by no closed word
+  pub none-beats : HandedOutAsClosed (documentSearch mode kind terms .outcome)
+      → lt (scoreIn (documentSearch mode kind terms .outcome)) (documentSearch mode kind terms .ceiling) ≡ false → (w : ℕ) → w < 2 ^ headerBits kind
+      → Demand.closed whole mode kind ints w ≤ℤ Demand.closed whole mode kind ints (documentSearch mode kind terms .word)
+  none-beats c e w h =
+      ≤ℤ-trans (bounded .none-above w h)
+      (ltZ-no (subst (λ (t : Bool). T (not t)) (sym e ∙ lt-whole (demand-3 .exact c) (bounded .is)) tt))
