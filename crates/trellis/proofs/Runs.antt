@@ -7,7 +7,7 @@ use lib.ListN.{getD}
 use mathlib.Core.Bool.{true}
 use lib.IntN.{ℤ, pos}
 use lib.Ieee.{Float, binary32, ofInt, add, sub, lt}
-use Rattle.trellis.specs.Scale.{highest}
+use Rattle.trellis.specs.Scale.{Scale, highest}
 use Rattle.trellis.specs.Trellis.{Trellis}
 use Rattle.trellis.specs.Search.{closing, candidate, unclosed, topOf, traceStart, traceWord, beats, scores}
 use Rattle.trellis.specs.Search.{decision, candidates, begin, closesIn, last, ceilingTo, ceiling, best, settled, search}
@@ -50,23 +50,22 @@ left-open : search (small (0 ∷ 2 ∷ 1 ∷ 1 ∷ 0 ∷ 0 ∷ 0 ∷ 0 ∷ []) (
 unfolding small search settled best last closesIn begin candidates beats traceStart traceWord highest scores decision
 left-open = refl
 
--- ---- ceilings
+-- ---- ceilings, but for one on 2 states and 2 steps
 
--- the tops of its two passes are 3 and 2
-second-ceiling : ceiling (small (1 ∷ 2 ∷ 1 ∷ 0 ∷ 1 ∷ 0 ∷ 0 ∷ 0 ∷ []) (0 ∷ 0 ∷ 0 ∷ 1 ∷ 0 ∷ 1 ∷ 0 ∷ 0 ∷ [])) ≡ pos 2
-unfolding small ceiling ceilingTo last closesIn begin traceStart highest scores decision
-second-ceiling = refl
+-- what registers 0 to 3 earn at step 0, and at step 1
+tiny : {A : Type 0} → Scale A → (ℕ → A) → List ℕ → List ℕ → Trellis A
+tiny S of a b = record { scale = S; states = 2; steps = 2; earn = λ j r. of (getD (getD (a ∷ b ∷ []) j []) r 0) }
 
--- tops of 3 and 2; out in the second pass with score 1, and no closed word scores more: the ceiling need not be reached
-unreached : search (small (1 ∷ 0 ∷ 0 ∷ 0 ∷ 0 ∷ 0 ∷ 1 ∷ 1 ∷ []) (0 ∷ 0 ∷ 1 ∷ 0 ∷ 0 ∷ 0 ∷ 2 ∷ 0 ∷ [])) ≡ record { how = closing 2; word = 1; score = pos 1 }
-unfolding small search settled best last closesIn begin candidates beats traceStart traceWord highest scores decision
+-- tops of 4 and 3; out in the second pass with score 2, and no closed word scores more: the ceiling need not be reached
+unreached : search (tiny whole pos (0 ∷ 0 ∷ 0 ∷ 2 ∷ []) (0 ∷ 1 ∷ 2 ∷ 0 ∷ [])) ≡ record { how = closing 2; word = 1; score = pos 2 }
+unfolding tiny search settled best last closesIn begin candidates beats traceStart traceWord highest scores decision
 unreached = refl
 
-unreached-ceiling : ceiling (small (1 ∷ 0 ∷ 0 ∷ 0 ∷ 0 ∷ 0 ∷ 1 ∷ 1 ∷ []) (0 ∷ 0 ∷ 1 ∷ 0 ∷ 0 ∷ 0 ∷ 2 ∷ 0 ∷ [])) ≡ pos 2
-unfolding small ceiling ceilingTo last closesIn begin traceStart highest scores decision
+unreached-ceiling : ceiling (tiny whole pos (0 ∷ 0 ∷ 0 ∷ 2 ∷ []) (0 ∷ 1 ∷ 2 ∷ 0 ∷ [])) ≡ pos 3
+unfolding tiny ceiling ceilingTo last closesIn begin traceStart highest scores decision
 unreached-ceiling = refl
 
--- tops of 3, 3 and 2: the score of an unclosed word may lie above the ceiling
+-- on 4 states, tops of 3, 3 and 2: the score of an unclosed word may lie above the ceiling
 open-above : search (small (0 ∷ 0 ∷ 0 ∷ 2 ∷ 0 ∷ 0 ∷ 1 ∷ 1 ∷ []) (0 ∷ 2 ∷ 0 ∷ 0 ∷ 0 ∷ 0 ∷ 0 ∷ 1 ∷ [])) ≡ record { how = unclosed; word = 3; score = pos 3 }
 unfolding small search settled best last closesIn begin candidates beats traceStart traceWord highest scores decision
 open-above = refl
@@ -76,16 +75,13 @@ unfolding small ceiling ceilingTo last closesIn begin traceStart highest scores 
 open-above-ceiling = refl
 
 -- at f32 a later pass's top can be greater, by rounding: 25,165,826 and then 25,165,828. The ceiling is the least, not the last
-smallSingle : List ℕ → List ℕ → Trellis Float
-smallSingle a b = record { scale = single; states = 4; steps = 2; earn = λ j r. ofInt binary32 (pos (getD (getD (a ∷ b ∷ []) j []) r 0)) }
-
 rising : Trellis Float
-rising = smallSingle (0 ∷ 0 ∷ 0 ∷ 16777218 ∷ 0 ∷ 0 ∷ 3 ∷ 0 ∷ []) (0 ∷ 0 ∷ 0 ∷ 0 ∷ 0 ∷ 0 ∷ 0 ∷ 8388608 ∷ [])
+rising = tiny single (λ k. ofInt binary32 (pos k)) (0 ∷ 0 ∷ 2 ∷ 0 ∷ []) (25165824 ∷ 0 ∷ 0 ∷ 3 ∷ [])
 
 rising-top : lt (topOf rising (begin rising 0)) (topOf rising (begin rising 1)) ≡ true
-unfolding rising smallSingle begin highest scores lt add sub ofInt
+unfolding rising tiny begin highest scores lt add sub ofInt
 rising-top = refl
 
 rising-ceiling : ceiling rising ≡ ofInt binary32 (pos 25165826)
-unfolding rising smallSingle ceiling ceilingTo last closesIn begin traceStart highest scores decision lt add sub ofInt
+unfolding rising tiny ceiling ceilingTo last closesIn begin traceStart highest scores decision lt add sub ofInt
 rising-ceiling = refl
