@@ -258,7 +258,9 @@
 -- Units.le-units : {j : ℕ} {x y : Float} {a b : ℤ} → Units j x a → Units j y b → T (le x y) → a ≤ℤ b
 --     the same of `le`
 -- Units.units-grid : {j : ℕ} {x : Float} → Grid j x → Units j x (inUnits j x)
---     a multiple of 2 ^ -j is a number of units, `inUnits`; `grid-fits` gives it for every finite value of the format
+--     a multiple of 2 ^ -j is a number of units, `inUnits`
+-- Units.units-fits : (f : Format) (x : Float) → T (fits f x) → T (finite x) → Units (low f) x (inUnits (low f) x)
+--     so every finite value of the format is
 -- Units.units-whole : (j : ℕ) {x : Float} {z : ℤ} → Whole x z → Units j x (pos (2 ^ j) *ℤ z)
 --     a whole number is 2 ^ j times as many
 -- Units.units-size : {n k j : ℕ} {x : Float} {z : ℤ} → Upto n k x → Units j x z → natAbs z ≤ n * 2 ^ (k + j)

@@ -11,7 +11,7 @@ use lib.Dec.{T, isLe, isEq, leb→le, nleb→lt, eqb→eq}
 use lib.Pow.{pow-add, pow-pos, pow-mono}
 use lib.Signed.{ltZ, _≤ℤ_, ltZ-no}
 use lib.IntN.{ℤ, pos, negℤ, natAbs, _+ℤ_, _-ℤ_, _*ℤ_, +ℤ-assoc, +ℤ-comm, +ℤ-idl, +ℤ-idr}
-use lib.Ieee.{Float, nan, inf, fin, Format, prec, emax, low, up, down, size, nearest, round, add, sub, neg, below, lt, le}
+use lib.Ieee.{Float, nan, inf, fin, Format, prec, emax, low, up, down, size, nearest, round, add, sub, neg, below, lt, le, fits}
 use lib.Ieee.Exact.{HasValue, units-val}
 use lib.Ieee.Digits.{size-le, size-reaches}
 use lib.Ieee.Fits.{two, round-is, down-pos}
@@ -27,7 +27,7 @@ use Rattle.ieee.proofs.Order.{pp, nn, le→not-lt}
 use Rattle.ieee.proofs.Sums.{left, right, below-scale}
 use Rattle.ieee.proofs.Rounds.{Rounds, add-rounds}
 use Rattle.ieee.proofs.Sizes.{round-size, add-upto, run-upto-from}
-use Rattle.ieee.proofs.Grids.{both, less-part}
+use Rattle.ieee.proofs.Grids.{both, less-part, grid-fits}
 
 -- ---- the nearest whole number is at most a half away
 half : (a b : ℕ) → 0 < b → (closest a b * b * 2 ≤ a * 2 + b) × (a * 2 ≤ closest a b * b * 2 + b)
@@ -267,6 +267,9 @@ units-grid {j} {x} g = go x (g .finite) (g .count) (g .size)
     go (inf s) F n h = absurd F
     go (fin s m e) F n h =
         units s m e (m * up e * 2 ^ j / down e) (h ∙ ap (λ (k : ℕ). k * down e) (sym (ap (λ (k : ℕ). k / down e) h ∙ mul-div-cancel n (down-pos e))))
+
+pub units-fits : (f : Format) (x : Float) → T (fits f x) → T (finite x) → Units (low f) x (inUnits (low f) x)
+units-fits f x h F = units-grid (grid-fits f x h F)
 
 -- a whole number is 2 ^ j times as many
 pub units-whole : (j : ℕ) {x : Float} {z : ℤ} → Whole x z → Units j x (pos (2 ^ j) *ℤ z)

@@ -20,8 +20,7 @@ use Rattle.ieee.specs.Within.{Within}
 use Rattle.ieee.specs.Size.{Upto}
 use Rattle.ieee.specs.Units.{Units, units}
 use Rattle.ieee.proofs.Sizes.{upto-within}
-use Rattle.ieee.proofs.Grids.{grid-fits}
-use Rattle.ieee.proofs.Units.{inUnits, units-grid, units-size}
+use Rattle.ieee.proofs.Units.{inUnits, units-fits, units-size}
 use Rattle.ieee.proofs.Values.{ofInt-whole}
 use Rattle.util.specs.Choose.{choose}
 use Rattle.util.specs.Table.{tabled}
@@ -73,7 +72,7 @@ any-units a terms h =
     record { units = unit; small = λ i l. le-trans (units-size (h i l .1) (unit i l)) (le-of-eq (one-mul (2 ^ (a + 149)))) }
   where
     unit : (i : ℕ) → i < length terms → Units 149 (lent terms i) (inUnits 149 (lent terms i))
-    unit i l = units-grid (grid-fits binary32 (lent terms i) (h i l .0) (h i l .1 .finite))
+    unit i l = units-fits binary32 (lent terms i) (h i l .0) (h i l .1 .finite)
 
 -- so all accepted terms have, and 20 is an a for them
 pub accepted-units : (terms : List Float) → Accepted terms → UnitTerms 20 terms (λ i. inUnits 149 (lent terms i))

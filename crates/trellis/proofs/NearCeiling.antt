@@ -21,8 +21,7 @@ use Rattle.ieee.proofs.Integers.{abs-add, abs-sub}
 use Rattle.ieee.proofs.Order as Order
 use Rattle.ieee.proofs.Rounds.{sub-nonpos, sub-nonneg}
 use Rattle.ieee.proofs.Sizes.{upto-zero, upto-wider, upto-within, sub-upto}
-use Rattle.ieee.proofs.Grids.{grid-fits}
-use Rattle.ieee.proofs.Units.{inUnits, units-grid, units-size, sub-near, le-units}
+use Rattle.ieee.proofs.Units.{inUnits, units-fits, units-size, sub-near, le-units}
 use Rattle.frame.specs.Format.{headerBits}
 use Rattle.frame.proofs.Air.{header-most}
 use Rattle.conv.specs.Encoder.{made, bit}
@@ -36,6 +35,7 @@ use Rattle.trellis.specs.Demand as Demand
 use Rattle.trellis.specs.Demand.{walk, margin, NoneAbove}
 use Rattle.trellis.proofs.Paths.{bit-lt, trace-start-lt}
 use Rattle.trellis.proofs.Best.{Ranked, along, attained, scores-ok, no-walk-above, along-le, highest-le, highest-lt}
+use Rattle.trellis.proofs.Handed as Handed
 use Rattle.trellis.proofs.Handed.{along-from}
 use Rattle.trellis.proofs.Integers.{group, ≤ℤ-trans, ≤ℤ-add, ≤ℤ-apart, ≤ℤ-less}
 use Rattle.trellis.proofs.Ceiling.{ceiling-each}
@@ -43,10 +43,6 @@ use Rattle.trellis.proofs.Demand.{header-long}
 use Rattle.trellis.proofs.AnyTerms.{Earned, ranked}
 use Rattle.trellis.proofs.Answered.{pass-held}
 use Rattle.trellis.proofs.Rounding.{up-by, walk-upto, along-near}
-
--- every finite value of f32 is so many units
-in-units : {x : Float} → T (fits binary32 x) → T (finite x) → Units 149 x (inUnits 149 x)
-in-units {x} h F = units-grid (grid-fits binary32 x h F)
 
 -- What x adds to s is at most b but for c, and b less s at most t but for d: so x is at most t but for both.
 above-by : (x s b t c d : ℤ) (m n q : ℕ) → (s +ℤ x +ℤ c) ≤ℤ b → (b -ℤ s +ℤ d) ≤ℤ t → natAbs c ≤ m → natAbs d ≤ n → m + n ≤ q → x ≤ℤ (t +ℤ pos q)
@@ -93,7 +89,7 @@ module _ (mode kind a : ℕ) (terms : List Float) (ints : ℕ → ℤ) (all : le
   gain-ok k hk s hs = let held = pass-held mode kind terms all in-range k hk .gains s hs in record { held = held .fits; upto = held .upto }
 
   end-lt : (k : ℕ) → end k < 16384
-  end-lt k = highest-lt single (ends k) 16384 (lit< tt)
+  end-lt k = Handed.end-lt X refl (lit< tt) (start k)
 
   end-most : (k : ℕ) → k ≤ 2 → (s : ℕ) → s < 16384 → T (le (ends k s) (ends k (end k)))
   end-most k hk s hs = highest-le L (ends k) 16384 (record { at = end-ok k hk }) hs
@@ -125,7 +121,7 @@ module _ (mode kind a : ℕ) (terms : List Float) (ints : ℕ → ℤ) (all : le
       (along-le X L (start-ok k hk q q-lt) (L .nil-ok) (start-most k hk q q-lt) q-lt w n (omega arith))
 
   top-units : (k : ℕ) → k ≤ 2 → Units 149 (topOf X (start k)) (inUnits 149 (topOf X (start k)))
-  top-units k hk = let top = gain-ok k hk _ (highest-lt single (gainOf X (start k)) 16384 (lit< tt)) in in-units (top .held) (top .upto .finite)
+  top-units k hk = let top = gain-ok k hk _ (highest-lt single (gainOf X (start k)) 16384 (lit< tt)) in units-fits binary32 _ (top .held) (top .upto .finite)
 
   -- ---- the word w in pass k: its walk starts and ends in the state p that is made of its last 14 bits
 
@@ -165,10 +161,10 @@ module _ (mode kind a : ℕ) (terms : List Float) (ints : ℕ → ℤ) (all : le
 
     module _ (k : ℕ) (hk : k ≤ 2) where
       start-units : Units 149 (start k p) (inUnits 149 (start k p))
-      start-units = in-units (start-ok k hk p p-lt .held) (start-ok k hk p p-lt .upto .finite)
+      start-units = units-fits binary32 _ (start-ok k hk p p-lt .held) (start-ok k hk p p-lt .upto .finite)
 
       end-units : Units 149 (ends k p) (inUnits 149 (ends k p))
-      end-units = in-units (end-ok k hk p p-lt .held) (end-ok k hk p p-lt .upto .finite)
+      end-units = units-fits binary32 _ (end-ok k hk p p-lt .held) (end-ok k hk p p-lt .upto .finite)
 
       -- sums and differences within 960 · 2^a, so within 2^(a+10), lose at most 2^(a-15) each
       room : 960 * 2 ^ (a + 149) ≤ 2 ^ (24 + suc (a + 134))
