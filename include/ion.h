@@ -31,19 +31,20 @@ extern "C" {
 
 /* The number of the last change request that is in; 0 is the base. Answer, outcome and tracker will grow. The library has the number
  * in a symbol's name, which every file that includes this header asks for: a library of another version does not link. */
-#define ION_VERSION 106
-uint32_t ion_version_106(void);
+#define ION_VERSION 107
+uint32_t ion_version_107(void);
 #if defined(__GNUC__)
-__attribute__((used)) static uint32_t (*const ion_version)(void) = ion_version_106;
+__attribute__((used)) static uint32_t (*const ion_version)(void) = ion_version_107;
 #endif
 
-/* modes, kinds, the form of data, the first and the last layout, what was heard of a symbol, outcomes of a header read */
+/* modes, kinds, the form of data, the first and the last layout, what was heard of a symbol, outcomes of a header read (from the best reading to
+ * none: Sure, Likely, Kept, Open; Likely came last and has the last number) */
 enum { ION_R0 = 0, ION_R1 = 1 };
 enum { ION_HEADER_ONLY = 0, ION_DATA = 1, ION_CUE = 2 };
 enum { ION_BIT_FORM = 0, ION_SYMBOL_FORM = 1 };
 enum { ION_FULL_BAND = 1, ION_NARROWEST = 8 };
 enum { ION_MISSED = 0, ION_HEARD = 1 };
-enum { ION_SURE = 0, ION_KEPT = 1, ION_OPEN = 2 };
+enum { ION_SURE = 0, ION_KEPT = 1, ION_OPEN = 2, ION_LIKELY = 3 };
 
 /* sizes: header symbols (n below, and as many header bits) by kind, data symbols of so many bits and their slots, terms and values of a
  * symbol, places of a score area, words of decisions for each header symbol, bytes of a slip, places and bytes of a board, the most data
@@ -108,30 +109,35 @@ uint32_t ion_interleave(const uint8_t *bits, size_t bits_len, uint8_t *slots, si
 uint32_t ion_interleave_sym(const uint8_t *symbols, size_t symbols_len, uint8_t *values, size_t values_len);
 
 /* Reads a header. terms: n*260 floats. Work areas, zeros after an answer: scores, next and start of 16,384 floats, decisions of n*256
- * words. word: header bit j at place j from the lowest, zeros above the last. outcome: ION_SURE, ION_KEPT or ION_OPEN. pass: 1 to 3 for
- * Sure, else 0. score: what the search gives the word. ceiling: how good any word could have been. The layout has no part in it; under
- * this mode and kind the word's CRC is good in one layout at most.
+ * words. word: header bit j at place j from the lowest, zeros above the last. outcome: ION_SURE, ION_LIKELY, ION_KEPT or ION_OPEN. pass: 1
+ * to 3 for Sure, 2 or 3 for Likely, else 0. score: what the search gives the word. ceiling: how good any word could have been. The layout
+ * has no part in it; under this mode and kind the word's CRC is good in one layout at most.
  *
  * The ceiling: for each pass that the search ran (at most three; one that closes ends it) take from each of the 16,384 states its score
  * at the end less the same state's score at the start of the pass, both f32 and so subtracted, and of these the greatest; the ceiling is
  * the least of them over the passes.
  *
+ * The outcome: a word that is out by closing in some pass, or else the best candidate after three, is Sure where its score is at or above
+ * the ceiling, both f32 and so compared, with the last pass run as its pass. Below the ceiling a word out by closing is Likely, with its
+ * pass, and a candidate Kept. Where there is neither, the last unclosed word is Open, wherever its score lies. A word that is out by
+ * closing in the first pass is always Sure, with pass 1, and no other has that pass.
+ *
  * What is proved of an answer, and under which condition:
- * - Sure in pass 1, any accepted terms: the score is the word's own, added in f32 as the receiver adds it, and no other word, closed or
- *   not, has a greater one. For terms within +-2^a (a from 0 to 20) no word's exact score is above the word's by more than 2^(a-8):
- *   with terms within +-64 no word beats it by more than a quarter of a point.
- * - Whole terms from -800 to 800: no word beats one that is Sure in pass 1; and the score of Sure in any pass and of Kept is exactly what
- *   the word's sent symbols earn.
- * - Sure in pass 2 or 3, Kept: a closed word that the search gives. It need not be the best one.
+ * - Sure, whole terms from -800 to 800: no closed word of n bits scores more, whichever pass gave it.
+ * - Sure, terms within +-2^a (a from 0 to 20): no closed word's exact score is above the word's by more than 2^(a-8), whichever pass gave
+ *   it: with terms within +-64 no closed word beats it by more than a quarter of a point.
+ * - Sure in pass 1, besides: no other word, closed or not, does either. And for any accepted terms the score is the word's own, added in
+ *   f32 as the receiver adds it, it is the ceiling, bit for bit, and no other word, closed or not, has a greater one.
+ * - Sure, Likely and Kept: a closed word. For whole terms from -800 to 800 its score is exactly what its sent symbols earn, for terms within
+ *   +-2^a off from that by at most 2^(a-9).
+ * - Likely and Kept: nothing more. Another closed word may have a greater score, but none need.
  * - Open: no closed word was found; the word is no header's.
- * - The ceiling, whole terms from -800 to 800: no closed word of n bits scores above it, whether one pass was run, two or three. So a word
- *   that is Sure or Kept with the ceiling as its score is beaten by no closed word.
- * - The ceiling of Sure in pass 1, any accepted terms: it is the score, bit for bit.
- * - The ceiling, terms within +-2^a (a from 0 to 20): no closed word's exact score is above it by more than 2^(a-8), however many passes
- *   were run: with terms within +-64 by no more than a quarter of a point.
+ * - The ceiling, whole terms from -800 to 800: no closed word of n bits scores above it, whether one pass was run, two or three.
+ * - The ceiling, terms within +-2^a (a from 0 to 20): no closed word's exact score is above it by more than 2^(a-9), however many passes
+ *   were run.
  * The ceiling is a bound and no more. It need not be reached by any word, so a score below it does not say that there is a better word.
- * An Open word is not closed, and its score may lie above the ceiling; for terms that are not whole, so may the score of Kept and of Sure
- * in pass 2 or 3, by rounding.
+ * For terms that are not whole a word may lie below it, or above it, by rounding alone: docs/MEASUREMENTS.md says how often that makes it
+ * Likely or Kept, or Sure, on bursts made by a channel.
  * Refused: 1, 4 (one of the five lengths), 6 (a term not finite or beyond +-1,000,000). */
 uint32_t ion_read_header(uint8_t mode, uint8_t kind, const float *terms, size_t terms_len, float *scores, size_t scores_len,
                          float *next, size_t next_len, float *start, size_t start_len, uint64_t *decisions, size_t decisions_len,
@@ -141,10 +147,11 @@ uint32_t ion_read_header(uint8_t mode, uint8_t kind, const float *terms, size_t 
  * each a tag of one byte, a length of two and the value, every number with its highest byte first:
  *   tag 1 mode, 1 byte; 2 kind, 1; 3 word, 8; 4 outcome, 6: the outcome, the pass, the score's four bytes; 5 start sample, 8; 6 segment, 2.
  * A slip holds: a mode and a kind that are named; a word with zeros above its 48 bits (64 for ION_DATA); ION_SURE with a pass of 1 to 3,
- * ION_KEPT or ION_OPEN with 0; a finite score (-0.0 is one, and has its own bytes); any start and segment. It has neither the layout nor
- * the ceiling, nor a verdict on the word's CRC, which ion_crc tells in the layout in use.
- * Proved: every answer of ion_read_header is such, with any start and segment. ion_read_slip gives back what was written, bit for bit.
- * Refused: 4 (slip_len is not 44), 13 (values that no slip holds, an outcome above 2 or a pass that does not go with it among them). */
+ * ION_LIKELY with 2 or 3, ION_KEPT or ION_OPEN with 0; a finite score (-0.0 is one, and has its own bytes); any start and segment. It has
+ * neither the layout nor the ceiling, nor a verdict on the word's CRC, which ion_crc tells in the layout in use.
+ * Proved: every answer of ion_read_header is such, with any start and segment. ion_read_slip gives back what was written, bit for bit. A slip
+ * of before version 107, which has no Likely, is written and read as it was; but Sure in it has that version's meaning.
+ * Refused: 4 (slip_len is not 44), 13 (values that no slip holds, an outcome above 3 or a pass that does not go with it among them). */
 uint32_t ion_write_slip(uint8_t mode, uint8_t kind, uint64_t word, uint8_t outcome, uint8_t pass, float score, uint64_t start,
                         uint16_t segment, uint8_t *slip, size_t slip_len);
 
@@ -175,8 +182,8 @@ static inline uint32_t ion_slip_from_bytes(ion_slip *s, const uint8_t *slip, siz
  * an empty board is a count of 0 over any bytes. Places past the count are not read, and of them only the one that a new segment fills is
  * written. slip: a slip's bytes, outside the board.
  * - Its segment is listed: it takes the listed slip's place where its start sample is later, or where both starts are equal and its reading
- *   is better: Sure is better than Kept, and Kept than Open; pass, score, word, mode and kind have no part in it. Else the listed slip
- *   remains, and nothing is written; so a slip put a second time changes nothing.
+ *   is better: Sure is better than Likely, Likely than Kept, and Kept than Open; pass, score, word, mode and kind have no part in it. Else
+ *   the listed slip remains, and nothing is written; so a slip put a second time changes nothing.
  * - Its segment is not listed: it is put where segments go on rising, those behind it move up by one place, and *count grows by one.
  * 0 is returned in each of these cases.
  * Proved: after any series of strings from an empty board, those refused set aside, the board shows for each segment the slip that the two

@@ -14,7 +14,7 @@ use lib.ListN.{length}
 use Rattle.util.specs.Choose.{choose}
 use Rattle.util.specs.Some.{someOf}
 use Rattle.util.proofs.Choose.{chosen, not-chosen}
-use Rattle.trellis.specs.Answer.{Sure, Kept, Open}
+use Rattle.trellis.specs.Answer.{Sure, Likely, Kept, Open}
 use Rattle.slip.specs.Slips.{taken, isSlip}
 use Rattle.slip.specs.declared.Fields.{Fields}
 use Rattle.board.specs.Places.{shown}
@@ -47,12 +47,15 @@ no-better listed new e l =
     chosen (ltb (rankOf new) (rankOf listed)) (ltb (listed .start) (new .start)) (eq-eqb (listed .start) (new .start) e)
     ∙ le-ltb (rankOf new) (rankOf listed) l
 
--- Sure is better than Kept and Kept than Open, whatever their passes and scores
-pub sure-kept : (x y : Float) (pass : ℕ) → rank (Sure x pass) < rank (Kept y)
-sure-kept x y pass = le-refl 1
+-- Sure is better than Likely, Likely than Kept and Kept than Open, whatever their passes and scores
+pub sure-likely : (x y : Float) (pass pass′ : ℕ) → rank (Sure x pass) < rank (Likely y pass′)
+sure-likely x y pass pass′ = le-refl 1
+
+pub likely-kept : (x y : Float) (pass : ℕ) → rank (Likely x pass) < rank (Kept y)
+likely-kept x y pass = le-refl 2
 
 pub kept-open : (x y : Float) → rank (Kept x) < rank (Open y)
-kept-open x y = le-refl 2
+kept-open x y = le-refl 3
 
 -- ---- it orders slips
 

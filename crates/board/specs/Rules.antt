@@ -1,4 +1,4 @@
--- Document 02, #105: the yard's rules, by which a new slip for a listed segment is judged.
+-- Document 02, #105 and #107: the yard's rules, by which a new slip for a listed segment is judged.
 use Prim.Native.Nat.{ℕ}
 use mathlib.Core.Bool.{Bool, true, false}
 use mathlib.Core.List.{List}
@@ -6,7 +6,7 @@ use mathlib.Core.Path.{_≡_}
 use lib.Dec.{eqb, ltb}
 use lib.Ieee.{Float}
 use Rattle.util.specs.Choose.{choose}
-use Rattle.trellis.specs.Answer.{Outcome, Sure, Kept, Open}
+use Rattle.trellis.specs.Answer.{Outcome, Sure, Likely, Kept, Open}
 use Rattle.outcome.specs.Numbers.{outcomeAt}
 use Rattle.slip.specs.Slips.{taken}
 use Rattle.slip.specs.declared.Fields.{Fields}
@@ -19,11 +19,12 @@ Rule = Fields → Fields → Bool
 abbrev pub judge : Rule → List ℕ → List ℕ → List ℕ
 judge rule listed new = choose (rule (taken listed) (taken new)) new listed
 
--- the best reading first: Sure, Kept, Open. Neither pass nor score counts. This is no outcome byte.
+-- the best reading first: Sure, Likely, Kept, Open. Neither pass nor score counts. This is no outcome byte.
 abbrev pub rank : Outcome Float → ℕ
 rank (Sure x pass) = 0
-rank (Kept x) = 1
-rank (Open x) = 2
+rank (Likely x pass) = 1
+rank (Kept x) = 2
+rank (Open x) = 3
 
 abbrev pub rankOf : Fields → ℕ
 rankOf f = rank (outcomeAt (f .outcome) (f .pass) (f .score))

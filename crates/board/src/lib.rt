@@ -29,8 +29,9 @@ fn rank(outcome: header::Outcome) -> u8
 {
     match outcome {
         header::Outcome::Sure(_, _) => 0,
-        header::Outcome::Kept(_) => 1,
-        header::Outcome::Open(_) => 2,
+        header::Outcome::Likely(_, _) => 1,
+        header::Outcome::Kept(_) => 2,
+        header::Outcome::Open(_) => 3,
     }
 }
 

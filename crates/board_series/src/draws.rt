@@ -8,8 +8,9 @@ pub struct Turn {
     pub y: u64,
     pub z: u64,
     pub w: u64,
-    // whether segments are few
+    // whether segments are few, and whether there are Likely slips (document 02, #107)
     pub few: bool,
+    pub likely: bool,
     // which damage; none from 8 on
     pub case: u64,
 }
@@ -19,7 +20,7 @@ pub fn mixed(h: u64, x: u64) -> u64 {
 }
 
 fn case_of(style: u64, w: u64) -> u64 {
-    if style > 1 { w % 16 } else { 15 }
+    if style % 4 > 1 { w % 16 } else { 15 }
 }
 
 pub fn drawn(seed: u64, j: usize, style: u64) -> Turn {
@@ -33,12 +34,22 @@ pub fn drawn(seed: u64, j: usize, style: u64) -> Turn {
         z,
         w,
         few: style % 2 == 0,
+        likely: style > 3,
         case: case_of(style, w),
     }
 }
 
+// An outcome of four, or of the three that there were before.
+fn outcome_of(likely: bool, x: u64) -> u8 {
+    if likely { (x % 4) as u8 } else { (x % 3) as u8 }
+}
+
 fn pass_of(outcome: u8, x: u64) -> u8 {
-    if outcome == 0 { (1 + x % 3) as u8 } else { 0 }
+    match outcome {
+        0 => (1 + x % 3) as u8,
+        3 => (2 + x % 2) as u8,
+        _ => 0,
+    }
 }
 
 // Any finite score.
@@ -65,7 +76,7 @@ pub fn write(d: Turn, slip: &mut [u8])
     ensures { λ _. ⌜ length (now (slip .exit)) ≡ length (now (slip .entry)) ⌝ }
 {
     let kind = (d.x / 2 % 3) as u8;
-    let outcome = (d.x / 8 % 3) as u8;
+    let outcome = outcome_of(d.likely, d.x / 8);
     ion::slips::ion_write_slip(
         (d.x % 2) as u8,
         kind,

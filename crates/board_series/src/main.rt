@@ -1,6 +1,6 @@
 // Replays series of slips put on a board, recorded by oracle/record.rs, which has the recipe: what is 200. The argument has a seed in its
-// lowest 32 bits, then the count of puts in 16, then a style in two bits: few segments or many, and whether some puts are damaged. The
-// answer is a digest: each put's number with the count that it left, then the board's bytes.
+// lowest 32 bits, then the count of puts in 16, then a style in three bits: few segments or many, whether some puts are damaged, and
+// whether there are Likely slips. The answer is a digest: each put's number with the count that it left, then the board's bytes.
 ghost use Prim.Native.Nat.{_≤_};
 ghost use mathlib.Core.Path.{_≡_};
 ghost use lib.ListN.{length};
@@ -120,7 +120,7 @@ fn answer(what: u8, asked: u64) -> u64 {
     }
     let mut board = [0u8; 22528];
     let n = ((asked >> 32) % 65536) as usize;
-    replayed(asked % 0x1_0000_0000, n, (asked >> 48) % 4, &mut board)
+    replayed(asked % 0x1_0000_0000, n, (asked >> 48) % 8, &mut board)
 }
 
 // How many of the records agree.

@@ -76,6 +76,7 @@ fn soft_values(
 fn show_outcome(block: &mut [u8], out: Waiting, outcome: header::Outcome) -> Waiting {
     match outcome {
         header::Outcome::Sure(score, pass) => burst_lines::sure(block, out, score, pass),
+        header::Outcome::Likely(score, pass) => burst_lines::likely(block, out, score, pass),
         header::Outcome::Kept(score) => burst_lines::kept(block, out, score),
         header::Outcome::Open(score) => burst_lines::undecided(block, out, score),
     }

@@ -32,6 +32,13 @@ pub fn sure(block: &mut [u8], out: Waiting, score: f32, pass: u8) -> Waiting {
     scored(block, out, score)
 }
 
+// Inside: the outcome Likely, the pass and the score.
+pub fn likely(block: &mut [u8], out: Waiting, score: f32, pass: u8) -> Waiting {
+    let out = counted(block, out, b"outcome Likely, pass ", pass as u64);
+    let out = text(block, out, b"\n");
+    scored(block, out, score)
+}
+
 // Inside: the outcome Kept and the score.
 pub fn kept(block: &mut [u8], out: Waiting, score: f32) -> Waiting {
     let out = text(block, out, b"outcome Kept\n");

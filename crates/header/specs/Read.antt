@@ -13,14 +13,15 @@ use Rattle.model.specs.Range.{someOut}
 use Rattle.trellis.specs.Answer as Answer
 use Rattle.trellis.specs.Terms.{documentSearch}
 use Rattle.header.specs.declared.Outcome.{Outcome}
-use Rattle.header.specs.declared.Outcome.the-variants.{Sure, Kept, Open}
+use Rattle.header.specs.declared.Outcome.the-variants.{Sure, Likely, Kept, Open}
 use Rattle.header.specs.declared.HeaderAnswer.{HeaderAnswer}
 use Rattle.header.specs.declared.HeaderRead.{HeaderRead}
 use Rattle.header.specs.declared.HeaderRead.the-variants.{Answer, Refused}
 
--- the outcome's cases and the answer in document 01's words
+-- the outcome's cases and the answer in the papers' words
 abbrev pub outcomeIs : Outcome → Answer.Outcome Float
 outcomeIs (Sure x pass) = Answer.Sure x pass
+outcomeIs (Likely x pass) = Answer.Likely x pass
 outcomeIs (Kept x) = Answer.Kept x
 outcomeIs (Open x) = Answer.Open x
 

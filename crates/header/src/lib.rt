@@ -1,5 +1,5 @@
-// The header read: the search over its steps' metrics and lent areas, the answer, the refusals. Its promise
-// carries demand 3, what the ceiling bounds, and what holds for any terms. Definitions in specs/ and in crate trellis.
+// The header read: the search over its steps' metrics and lent areas, the answer, the refusals. Its promise carries demand 3, what
+// the ceiling bounds, what Sure means, and what holds for any terms. Definitions in specs/ and in crate trellis.
 ghost use mathlib.Core.Path.{_≡_};
 ghost use mathlib.Core.Bool.{false};
 ghost use Prim.Native.Nat.{_*_};
@@ -7,15 +7,19 @@ ghost use lib.ListN.{length, replicate};
 ghost use Rattle.ieee.specs.Whole.{plusZero};
 ghost use Rattle.frame.specs.Format.{headerBits};
 ghost use Rattle.trellis.specs.Answer.{Answer, outcomeOf};
+ghost use Rattle.trellis.specs.Numbers.{single};
+ghost use Rattle.trellis.specs.Search.{closing, candidate};
 ghost use Rattle.trellis.specs.Terms.{documentSearch};
 ghost use Rattle.trellis.specs.Demand.{Claims};
 ghost use Rattle.search.specs.Found.{howIs};
 ghost use Rattle.header.specs.Read.{meaning, outcomeIs, answerIs, Room, areas, lengthsRight, headerRead, areaAfter};
 
-// How sure the word is: out by closing in a pass (1 to 3), the best candidate after three passes, or
-// the last unclosed word. Each carries the word's score.
+// How sure the word is (document 02, #107); each carries the word's score. A word that is out by closing, or is the best candidate
+// after three passes, is Sure where its score is at or above the ceiling, with the last pass run. Below it the one is Likely, with
+// its pass (2 or 3), and the other Kept. Open is the last unclosed word.
 pub enum Outcome {
     Sure(f32, u8),
+    Likely(f32, u8),
     Kept(f32),
     Open(f32),
 }
@@ -34,13 +38,40 @@ pub enum HeaderRead {
     Refused(u8),
 }
 
-// The outcome that the search's way to its word makes.
-fn outcome_of(how: search::How, score: f32) -> Outcome
-    ensures { λ r. ⌜ outcomeIs r ≡ outcomeOf (howIs how) score ⌝ }
+// Whether the ceiling is above the score, at f32 as both stand.
+fn stays_below(score: f32, ceiling: f32) -> bool
+    ensures { λ r. ⌜ r ≡ single .gt ceiling score ⌝ }
+{
+    score < ceiling
+}
+
+// A word that is out by closing in a pass.
+fn closed(pass: u8, score: f32, ceiling: f32) -> Outcome
+    ensures { λ r. ⌜ outcomeIs r ≡ outcomeOf single (closing pass) score ceiling ⌝ }
+{
+    if stays_below(score, ceiling) {
+        return Outcome::Likely(score, pass);
+    }
+    Outcome::Sure(score, pass)
+}
+
+// The best candidate after three passes, whichever of them had it.
+fn best(score: f32, ceiling: f32) -> Outcome
+    ensures { λ r. ⌜ outcomeIs r ≡ outcomeOf single candidate score ceiling ⌝ }
+{
+    if stays_below(score, ceiling) {
+        return Outcome::Kept(score);
+    }
+    Outcome::Sure(score, 3)
+}
+
+// The outcome that the search's way to its word makes, with its score and the ceiling.
+fn outcome_of(how: search::How, score: f32, ceiling: f32) -> Outcome
+    ensures { λ r. ⌜ outcomeIs r ≡ outcomeOf single (howIs how) score ceiling ⌝ }
 {
     match how {
-        search::How::Closing(pass) => Outcome::Sure(score, pass),
-        search::How::Candidate => Outcome::Kept(score),
+        search::How::Closing(pass) => closed(pass, score, ceiling),
+        search::How::Candidate => best(score, ceiling),
         search::How::Unclosed => Outcome::Open(score),
     }
 }
@@ -66,7 +97,7 @@ fn searched(
     let how = found.how;
     HeaderAnswer {
         word: found.word,
-        outcome: outcome_of(how, found.score),
+        outcome: outcome_of(how, found.score, found.ceiling),
         ceiling: found.ceiling,
     }
 }
@@ -104,8 +135,9 @@ fn room(kind: u8, terms: usize, scores: usize, next: usize, start: usize, decisi
     decisions == n * 256
 }
 
-// Public entry: the header read (document 01, 'A header read'; document 02, #106). `claims` has demand 3 and that no
-// closed word is above the ceiling, for whole terms from -800 to 800, and what holds of every read that is not refused.
+// Public entry: the header read (document 01, 'A header read'; document 02, #106, #107). `claims` has, for whole terms from -800 to
+// 800, demand 3, that no closed word is above the ceiling and that none beats a Sure one; and what holds of every read that is not
+// refused.
 pub fn read_header(
     mode: u8,
     kind: u8,

@@ -1,5 +1,6 @@
-// A header read. Where 0 is returned, `claims` says of the answer what the entry's own promise does: demand 3 and that no
-// closed word is above the ceiling, for whole terms from -800 to 800, and what holds of every read that is not refused.
+// A header read. Where 0 is returned, `claims` says of the answer what the entry's own promise does: for whole terms from -800 to
+// 800 demand 3, that no closed word is above the ceiling and that none beats a Sure one; and what holds of every read that is not
+// refused.
 ghost use mathlib.Core.Path.{_≡_};
 ghost use Rattle.trellis.specs.Demand.{Claims};
 ghost use Rattle.header.specs.Read.{areas};

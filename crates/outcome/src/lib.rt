@@ -4,7 +4,7 @@ ghost use Rattle.trellis.specs.Answer.{scoreIn};
 ghost use Rattle.header.specs.Read.{outcomeIs};
 ghost use Rattle.outcome.specs.Numbers.{outcomeNumber, passNumber, outcomeAt};
 
-// 0 Sure, 1 Kept, 2 Open; the pass of a Sure, else 0; the score.
+// 0 Sure, 1 Kept, 2 Open, 3 Likely; the pass of a Sure or a Likely, else 0; the score.
 pub struct Numbers {
     pub outcome: u8,
     pub pass: u8,
@@ -19,6 +19,11 @@ pub fn in_numbers(outcome: header::Outcome) -> Numbers
     match outcome {
         header::Outcome::Sure(x, pass) => Numbers {
             outcome: 0,
+            pass,
+            score: x,
+        },
+        header::Outcome::Likely(x, pass) => Numbers {
+            outcome: 3,
             pass,
             score: x,
         },
@@ -44,6 +49,9 @@ pub fn from_numbers(outcome: u8, pass: u8, score: f32) -> header::Outcome
     }
     if outcome == 1 {
         return header::Outcome::Kept(score);
+    }
+    if outcome == 3 {
+        return header::Outcome::Likely(score, pass);
     }
     header::Outcome::Open(score)
 }

@@ -21,11 +21,15 @@ fn scored(block: &mut [u8], out: Waiting, score: f32) -> Waiting {
     float(block, out, score)
 }
 
-// The outcome with its pass, which a Sure alone has, and its score.
+// The outcome with its pass, which a Sure and a Likely have, and its score.
 fn reading(block: &mut [u8], out: Waiting, outcome: Outcome) -> Waiting {
     match outcome {
         Outcome::Sure(score, pass) => {
             let out = counted(block, out, b", Sure, pass ", pass as u64);
+            scored(block, out, score)
+        }
+        Outcome::Likely(score, pass) => {
+            let out = counted(block, out, b", Likely, pass ", pass as u64);
             scored(block, out, score)
         }
         Outcome::Kept(score) => {

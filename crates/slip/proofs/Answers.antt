@@ -1,5 +1,5 @@
 -- Every answer of the header read makes a lawful slip, with any start sample and any segment number. Assumes nothing.
-use Prim.Native.Nat.{ℕ, _*_, _^_, _≤_, _<_}
+use Prim.Native.Nat.{ℕ, suc, _*_, _^_, _<_}
 use mathlib.Core.Bool.{true, not, and-eq-true-iff}
 use mathlib.Core.List.{List}
 use mathlib.Core.Path.{_≡_, refl, sym, ap, subst, _∙_}
@@ -14,26 +14,31 @@ use Rattle.util.specs.Refusal.{accepted}
 use Rattle.util.proofs.Choose.{past-cause}
 use Rattle.frame.specs.Format.{named, headerBits}
 use Rattle.model.specs.Range.{someOut}
-use Rattle.trellis.specs.Search.{How, closing, candidate, unclosed, search}
-use Rattle.trellis.specs.Answer.{Answer, outcomeOf}
+use Rattle.trellis.specs.Trellis.{Trellis}
+use Rattle.trellis.specs.Search.{last, search, ceiling}
+use Rattle.trellis.specs.Answer.{Answer, Outcome, Sure, Likely, Kept, Open}
 use Rattle.trellis.specs.Numbers.{single}
 use Rattle.trellis.specs.Terms.{header, lent, documentSearch}
-use Rattle.trellis.proofs.Handed.{search-short, closing-pass}
-use Rattle.trellis.proofs.Demand.{score-is}
+use Rattle.trellis.specs.Demand.{Graded}
+use Rattle.trellis.proofs.Handed.{last-most, search-short}
+use Rattle.trellis.proofs.Outcomes.{score-is}
 use Rattle.trellis.proofs.Answered.{score-held}
+use Rattle.trellis.proofs.Graded.{graded}
 use Rattle.header.specs.Read.{Areas, lengthsRight, headerRead}
 use Rattle.outcome.specs.Numbers.{outcomeNumber, passNumber}
 use Rattle.slip.specs.Lawful.{passGoes, lawful}
 use Rattle.slip.specs.Slips.{answerFields}
 use Rattle.slip.proofs.Slips.{from-values}
 
--- the pass goes with the outcome, however the word was found
-goes : (h : How) (x : Float) → ((p : ℕ) → h ≡ closing p → (1 ≤ p) × (p ≤ 3))
-    → passGoes (outcomeNumber (outcomeOf h x)) (passNumber (outcomeOf h x)) ≡ true
+-- the pass goes with the outcome
+goes : (X : Trellis Float) (a : Answer Float) → Graded X a → (o : Outcome Float) → a .outcome ≡ o → passGoes (outcomeNumber o) (passNumber o) ≡ true
 unfolding passGoes
-goes (closing p) x within = let both = within p refl in rw (le-leb 1 p (both .0), le-leb p 3 (both .1)) refl
-goes candidate x within = refl
-goes unclosed x within = refl
+goes X a g (Sure x q) e =
+    let pass : q ≡ suc (last X) = g .sure x q .0 e .2 in
+    rw (le-leb 1 q (omega (arith, pass)), le-leb q 3 (omega (arith, pass, last-most X))) refl
+goes X a g (Likely x q) e = let (least, most) = g .late x q e in rw (le-leb 2 q least, le-leb q 3 most) refl
+goes X a g (Kept x) e = refl
+goes X a g (Open x) e = refl
 
 pub answer-lawful : (mode kind : ℕ) (terms : List Float) (w : Areas) (a : Answer Float) (start segment : ℕ) → start < 2 ^ 64 → segment < 2 ^ 16
     → headerRead mode kind terms w ≡ accepted a → lawful (answerFields mode kind a start segment) ≡ true
@@ -44,7 +49,9 @@ answer-lawful mode kind terms w a start segment hs hg e =
     let three = past-cause (someOut terms) 6 _ a (two .1) in
     let long = and-eq-true-iff (eqb (length terms) (headerBits kind * 260)) _ .0 (not-false right (two .0)) .0 in
     let all : length terms ≡ headerBits kind * 260 = eqb-true (length terms) (headerBits kind * 260) long in
-    let found = search (header single mode kind (lent terms)) in
+    let X = header single mode kind (lent terms) in
+    let found = search X in
+    let its-score = score-is single (found .score) (ceiling X) (found .how) in
     let held = score-held mode kind terms (omega (arith, all)) (three .0) in
     let given = three .1 in
     let is : documentSearch mode kind terms ≡ a = cc in
@@ -52,10 +59,10 @@ answer-lawful mode kind terms w a start segment hs hg e =
     (from-values (answerFields mode kind (documentSearch mode kind terms) start segment)
     (record {
       of-name = not-false _ (one .0);
-      of-word = search-short (header single mode kind (lent terms));
-      of-pass = goes (found .how) (found .score) (closing-pass (header single mode kind (lent terms)));
-      of-score = subst (λ (x : Float). T (fits binary32 x)) (sym (score-is (found .how) (found .score))) (held .0);
-      is-finite = ap finite (score-is (found .how) (found .score)) ∙ is-true (finite (found .score)) (held .1);
+      of-word = search-short X;
+      of-pass = goes X (documentSearch mode kind terms) (graded mode kind terms (omega (arith, all)) (three .0)) _ refl;
+      of-score = subst (λ (x : Float). T (fits binary32 x)) (sym its-score) (held .0);
+      is-finite = ap finite its-score ∙ is-true (finite (found .score)) (held .1);
       of-start = hs;
       of-segment = hg;
     }))

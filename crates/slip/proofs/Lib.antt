@@ -2,6 +2,7 @@
 pub mod Strings
 pub mod Numbers
 pub mod Slips
+pub mod Older
 pub mod Entries
 pub mod Answers
 pub mod Refused

@@ -12,7 +12,7 @@ use Rattle.trellis.specs.Answer as Answer
 use Rattle.trellis.specs.Answer.{scoreIn}
 use Rattle.header.specs.Read.{outcomeIs}
 use Rattle.header.specs.declared.Outcome.{Outcome}
-use Rattle.header.specs.declared.Outcome.the-variants.{Sure, Kept, Open}
+use Rattle.header.specs.declared.Outcome.the-variants.{Sure, Likely, Kept, Open}
 use Rattle.outcome.specs.Numbers.{outcomeNumber, passNumber, outcomeAt}
 use Rattle.outcome.proofs.Back.{one-outcome}
 use Rattle.slip.specs.Lawful.{passGoes}
@@ -26,15 +26,19 @@ pub record Back (outcome pass : ℕ) (score : Float) (o : Answer.Outcome Float) 
 
 pub back : (outcome pass : ℕ) (score : Float) → passGoes outcome pass ≡ true → Back outcome pass score (outcomeAt outcome pass score)
 unfolding passGoes
-back outcome pass score e = by (eqb outcome 0) (eqb outcome 1) refl refl e
+back outcome pass score e = by (eqb outcome 0) (eqb outcome 1) (eqb outcome 3) refl refl refl e
   where
-    by : (s t : Bool) → eqb outcome 0 ≡ s → eqb outcome 1 ≡ t → choose s (leb 1 pass && leb pass 3) (leb outcome 2 && eqb pass 0) ≡ true
-        → Back outcome pass score (choose s (Answer.Sure score pass) (choose t (Answer.Kept score) (Answer.Open score)))
-    by true t p q e = record { of-outcome = sym (eqb-true outcome 0 p); of-pass = refl; of-score = refl }
-    by false true p q e =
+    by : (s t u : Bool) → eqb outcome 0 ≡ s → eqb outcome 1 ≡ t → eqb outcome 3 ≡ u
+        → choose s (leb 1 pass && leb pass 3) (choose u (leb 2 pass && leb pass 3) (leb outcome 2 && eqb pass 0)) ≡ true
+        → Back outcome pass score
+        (choose s (Answer.Sure score pass) (choose t (Answer.Kept score) (choose u (Answer.Likely score pass) (Answer.Open score))))
+    by true t u p q r e = record { of-outcome = sym (eqb-true outcome 0 p); of-pass = refl; of-score = refl }
+    by false true true p q r e = absurd (omega (arith, eqb-true outcome 1 q, eqb-true outcome 3 r))
+    by false true false p q r e =
         let both = and-eq-true-iff (leb outcome 2) (eqb pass 0) .0 e in
         record { of-outcome = sym (eqb-true outcome 1 q); of-pass = sym (eqb-true pass 0 (both .1)); of-score = refl }
-    by false false p q e =
+    by false false true p q r e = record { of-outcome = sym (eqb-true outcome 3 r); of-pass = refl; of-score = refl }
+    by false false false p q r e =
         let both = and-eq-true-iff (leb outcome 2) (eqb pass 0) .0 e in
         let not-0 = eqb-false outcome 0 p in
         let not-1 = eqb-false outcome 1 q in
@@ -43,11 +47,13 @@ back outcome pass score e = by (eqb outcome 0) (eqb outcome 1) refl refl e
 -- the header read's own outcomes
 abbrev named : Answer.Outcome Float → Outcome
 named (Answer.Sure x pass) = Sure x pass
+named (Answer.Likely x pass) = Likely x pass
 named (Answer.Kept x) = Kept x
 named (Answer.Open x) = Open x
 
 its-own : (o : Outcome) → named (outcomeIs o) ≡ o
 its-own (Sure x pass) = refl
+its-own (Likely x pass) = refl
 its-own (Kept x) = refl
 its-own (Open x) = refl
 

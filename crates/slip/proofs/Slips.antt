@@ -81,13 +81,18 @@ small-name mode kind e =
 
 small-pass : (outcome pass : ℕ) → passGoes outcome pass ≡ true → (outcome < 256) × (pass < 256)
 unfolding passGoes
-small-pass outcome pass e = by (eqb outcome 0) refl e
+small-pass outcome pass e = by (eqb outcome 0) (eqb outcome 3) refl refl e
   where
-    by : (t : Bool) → eqb outcome 0 ≡ t → choose t (leb 1 pass && leb pass 3) (leb outcome 2 && eqb pass 0) ≡ true → (outcome < 256) × (pass < 256)
-    by true z e =
+    by : (t u : Bool) → eqb outcome 0 ≡ t → eqb outcome 3 ≡ u
+        → choose t (leb 1 pass && leb pass 3) (choose u (leb 2 pass && leb pass 3) (leb outcome 2 && eqb pass 0)) ≡ true
+        → (outcome < 256) × (pass < 256)
+    by true u z l e =
         let both = and-eq-true-iff (leb 1 pass) (leb pass 3) .0 e in
         (omega (arith, eqb-true outcome 0 z), omega (arith, leb-true pass 3 (both .1)))
-    by false z e =
+    by false true z l e =
+        let both = and-eq-true-iff (leb 2 pass) (leb pass 3) .0 e in
+        (omega (arith, eqb-true outcome 3 l), omega (arith, leb-true pass 3 (both .1)))
+    by false false z l e =
         let both = and-eq-true-iff (leb outcome 2) (eqb pass 0) .0 e in
         (omega (arith, leb-true outcome 2 (both .0)), omega (arith, eqb-true pass 0 (both .1)))
 
@@ -130,11 +135,14 @@ pub read-spelt : (f : Fields) → lawful f ≡ true → reading (spell f) ≡ ac
 read-spelt f e =
     not-chosen (refused 13) (accepted (taken (spell f))) (ap not (slip-spelt f e)) ∙ ap accepted (taken-back f e)
 
--- what the writer leaves in a buffer of 44 bytes is read as what was written
-pub read-written : (f : Fields) (out : List ℕ) → length out ≡ 44 → lawful f ≡ true → reading (written f out) ≡ accepted f
-read-written f out long e =
+-- what the writer leaves in a buffer of 44 bytes is its spelling, and is read as what was written
+pub written-lawful : (f : Fields) (out : List ℕ) → length out ≡ 44 → lawful f ≡ true → written f out ≡ spell f
+written-lawful f out long e =
     let done : writing f (length out) ≡ accepted tt = rw (eq-eqb (length out) (length (spell f)) (long ∙ sym (forty-four f)), e) refl in
-    ap (λ (o : Outcome Unit). reading (afterwards o out (spell f))) done ∙ read-spelt f e
+    ap (λ (o : Outcome Unit). afterwards o out (spell f)) done
+
+pub read-written : (f : Fields) (out : List ℕ) → length out ≡ 44 → lawful f ≡ true → reading (written f out) ≡ accepted f
+read-written f out long e = ap reading (written-lawful f out long e) ∙ read-spelt f e
 
 -- ---- and nothing else is read
 

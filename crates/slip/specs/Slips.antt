@@ -105,7 +105,10 @@ abbrev pub slipIs : SlipRead → Outcome Fields
 slipIs (Read.Good s) = accepted (fieldsOf s)
 slipIs (Read.Refused k) = refused k
 
--- what a reader may answer to a string: the lawful slip that is spelt as it; 13 where no lawful slip is
+-- what a reader may answer to a string, where these values are lawful: the lawful slip that is spelt as it; 13 where no lawful slip is
+abbrev pub ReadsBy : (Fields → Bool) → List ℕ → Outcome Fields → Type 0
+ReadsBy law b (accepted f) = (law f ≡ true) × (spell f ≡ b)
+ReadsBy law b (refused k) = (k ≡ 13) × ((f : Fields) → law f ≡ true → spell f ≡ b → ⊥)
+
 abbrev pub Reads : List ℕ → Outcome Fields → Type 0
-Reads b (accepted f) = (lawful f ≡ true) × (spell f ≡ b)
-Reads b (refused k) = (k ≡ 13) × ((f : Fields) → lawful f ≡ true → spell f ≡ b → ⊥)
+Reads b o = ReadsBy lawful b o

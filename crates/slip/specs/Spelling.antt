@@ -10,7 +10,7 @@ use Rattle.slip.specs.declared.Fields.{Fields}
 unfoldable pub field : ℕ → List ℕ → List ℕ
 field tag value = big 1 tag ++ big 2 (length value) ++ value
 
--- the outcome's value: a byte (0 Sure, 1 Kept, 2 Open), the pass, and the score's four bytes
+-- the outcome's value: a byte (0 Sure, 1 Kept, 2 Open, 3 Likely), the pass, and the score's four bytes
 unfoldable pub outcomeValue : ℕ → ℕ → Float → List ℕ
 outcomeValue outcome pass score = big 1 outcome ++ big 1 pass ++ big 4 (toBits binary32 score)
 

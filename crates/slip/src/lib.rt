@@ -24,7 +24,7 @@ pub struct Slip {
     pub segment: u16,
 }
 
-// The same as the numbers that a slip holds: 0 Sure, 1 Kept, 2 Open; the pass of a Sure, else 0.
+// The same as the numbers that a slip holds: 0 Sure, 1 Kept, 2 Open, 3 Likely; the pass of a Sure or a Likely, else 0.
 pub struct Fields {
     pub mode: u8,
     pub kind: u8,
@@ -66,12 +66,18 @@ fn word_fits(kind: u8, word: u64) -> bool
     word < 0x1_0000_0000_0000
 }
 
-// Sure has its pass, 1 to 3, Kept and Open have 0, and nothing else is an outcome.
+// Sure has its pass, 1 to 3, Likely 2 or 3, Kept and Open have 0, and nothing else is an outcome.
 fn pass_goes(outcome: u8, pass: u8) -> bool
     ensures { λ r. ⌜ r ≡ passGoes outcome pass ⌝ }
 {
     if outcome == 0 {
         if pass < 1 {
+            return false;
+        }
+        return pass < 4;
+    }
+    if outcome == 3 {
+        if pass < 2 {
             return false;
         }
         return pass < 4;

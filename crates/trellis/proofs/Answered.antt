@@ -1,4 +1,4 @@
--- The score of every answer that is not refused is a finite f32, and so is every score and every gain of the passes. It is the simulation of the
+-- Score and ceiling of every answer that is not refused are finite f32, and so is every score and every gain of the passes. It is the simulation of the
 -- search by itself, with the score's size counted in units of 2 ^ 20, of which a term is at most one; the terms themselves need not be f32
 -- values, since every sum is rounded to one. (Where they are, no score is -0.0 either: Finite.) Assumes nothing.
 use Prim.Native.Nat.{ℕ, _*_, _^_, _≤_, _<_}
@@ -18,12 +18,12 @@ use Rattle.ieee.proofs.Sizes.{upto-zero, upto-wider, add-upto, sub-upto}
 use Rattle.frame.specs.Format.{headerBits}
 use Rattle.model.specs.Range.{someOut}
 use Rattle.trellis.specs.Trellis.{Trellis}
-use Rattle.trellis.specs.Search.{search}
+use Rattle.trellis.specs.Search.{search, ceiling}
 use Rattle.trellis.specs.Numbers.{single}
 use Rattle.trellis.specs.Terms.{header, lent}
 use Rattle.trellis.proofs.Alike.{Follows, SamePass}
 use Rattle.trellis.proofs.AnyTerms.{term-upto}
-use Rattle.trellis.proofs.Metric.{header-pass, header-alike}
+use Rattle.trellis.proofs.Metric.{header-pass, header-alike, header-ceiling}
 
 -- a score, and a term, stand for themselves
 pub record Held (q : ℕ) (x y : Float) : Type 0 where
@@ -70,3 +70,6 @@ module _ (mode kind : ℕ) (terms : List Float) (all : length terms ≡ 260 * he
 
   pub score-held : T (fits binary32 (search X .score)) × T (finite (search X .score))
   score-held = let score = header-alike follows-self mode kind 1 (lent terms) (lent terms) term (lit≤ tt) .score in (score .fits, score .upto .finite)
+
+  pub ceiling-held : T (fits binary32 (ceiling X)) × T (finite (ceiling X))
+  ceiling-held = let held = header-ceiling follows-self mode kind 1 (lent terms) (lent terms) term (lit≤ tt) in (held .fits, held .upto .finite)

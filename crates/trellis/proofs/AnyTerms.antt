@@ -1,7 +1,7 @@
 -- ANY TERMS: at f32 the steps keep the order too, since rounding does and every sum is finite. So what is proved of the first pass holds of every
 -- read that is not refused, with scores added as the receiver adds them. Assumes nothing.
 use Prim.Native.Nat.{ℕ, suc, _+_, _*_, _^_, _≤_, _<_}
-use mathlib.Core.Path.{_≡_, sym, ap, _∙_, subst}
+use mathlib.Core.Path.{_≡_, sym, _∙_, subst}
 use mathlib.Core.Bool.{true, false, _&&_}
 use mathlib.Core.List.{List}
 use native.Mathlib.Nat.{mul-le-mul-right}
@@ -21,17 +21,18 @@ use Rattle.frame.specs.Format.{headerBits}
 use Rattle.frame.proofs.Air.{header-most}
 use Rattle.model.specs.Metric.{metricOf}
 use Rattle.model.specs.Range.{million, outOfRange, someOut}
-use Rattle.trellis.specs.Search.{How, Found, search}
-use Rattle.trellis.specs.Answer.{outcomeOf}
+use Rattle.trellis.specs.Search.{closing, Found, search, ceiling}
+use Rattle.trellis.specs.Answer.{Sure}
 use Rattle.trellis.specs.Numbers.{single}
 use Rattle.trellis.specs.Terms.{header, lent, documentSearch}
 use Rattle.trellis.specs.Demand.{AnyTerms}
 use Rattle.trellis.proofs.Best.{Ranked}
 use Rattle.trellis.proofs.Handed.{search-short}
-use Rattle.trellis.proofs.Ceiling.{first-ceiling}
+use Rattle.trellis.proofs.Ceiling.{first-ceiling, first-reached}
 use Rattle.trellis.proofs.Metric.{step-within}
 use Rattle.trellis.proofs.Sent.{sent-in-steps}
-use Rattle.trellis.proofs.Demand.{exact-first, optimal, unique, score-is, first-is, best-word, header-long}
+use Rattle.trellis.proofs.Outcomes.{score-is, first-is, first-sure}
+use Rattle.trellis.proofs.Demand.{exact-first, optimal, unique, best-word, header-long}
 
 -- what a score can be after j steps of any pass: a value of f32 of at most 4480 terms and 5 more a step, each within 2^20 (no start score of the
 -- three passes is above 4480 such: Answered)
@@ -82,19 +83,26 @@ module _ (mode kind : ℕ) (terms : List Float) (all : length terms ≡ 260 * he
   abbrev F : Found Float
   F = search (header single mode kind (lent terms))
 
+  abbrev top : Float
+  top = ceiling (header single mode kind (lent terms))
+
+  -- a word that is out by closing in the first pass is always Sure with pass 1
+  pub sure-first : F .how ≡ closing 1 → documentSearch mode kind terms .outcome ≡ Sure (F .score) 1
+  sure-first e = first-sure single (F .score) top e (first-reached (header single mode kind (lent terms)) ranked (lit< tt) e)
+
   pub any-terms : AnyTerms mode kind terms (documentSearch mode kind terms)
   any-terms =
       record {
         short = search-short (header single mode kind (lent terms));
         exact = λ o.
-            score-is (F .how) (F .score)
-            ∙ sym (exact-first single 14 (lit< tt) (headerBits kind) (header-long kind) earn ranked (first-is (F .how) (F .score) o));
+            score-is single (F .score) top (F .how)
+            ∙ sym (exact-first single 14 (lit< tt) (headerBits kind) (header-long kind) earn ranked (first-is single (F .score) top (F .how) o));
         sent = sent-in-steps single mode kind (lent terms);
         best = best-word single mode kind (lent terms)
-            (λ o p w hp _. optimal single 14 (lit< tt) (headerBits kind) (header-long kind) earn ranked (first-is (F .how) (F .score) o) hp w)
+            (λ o p w hp _. optimal single 14 (lit< tt) (headerBits kind) (header-long kind) earn ranked (first-is single (F .score) top (F .how) o) hp w)
             (λ w _ beats.
             let u = unique single 14 (lit< tt) (headerBits kind) (header-long kind) earn ranked w beats in
-            (u .0, (F .score, ap (λ (i : How). outcomeOf i (F .score)) (u .1))));
+            (u .0, (F .score, sure-first (u .1))));
         at-ceiling = λ o.
-            first-ceiling (header single mode kind (lent terms)) ranked (first-is (F .how) (F .score) o) ∙ sym (score-is (F .how) (F .score));
+            first-ceiling (header single mode kind (lent terms)) ranked (first-is single (F .score) top (F .how) o) ∙ sym (score-is single (F .score) top (F .how));
       }

@@ -1,8 +1,8 @@
 -- THE CEILING (document 02, #106). It is the top of one of the passes, so what holds of every pass's top holds of it. Out by closing in the first
--- pass it is the score. Where sums can be taken back, no closed word scores above any pass's top: its walk ends in the state in which it
+-- pass it is the score, which is then not below it. Where sums can be taken back, no closed word scores above any pass's top: its walk ends in the state in which it
 -- starts, so that state's gain is at least its score, whatever the start scores. Assumes nothing.
 use Prim.Native.Nat.{ℕ, zero, suc, _%_, _^_, _≤_, _<_}
-use mathlib.Core.Path.{_≡_, sym, ap, _∙_, subst, subst₂}
+use mathlib.Core.Path.{_≡_, refl, sym, ap, _∙_, subst, subst₂}
 use mathlib.Core.Bool.{Bool, true, false}
 use native.Mathlib.Omega.{arith}
 use lib.Pow.{pow-pos}
@@ -50,6 +50,20 @@ module _ {A : Type 0} (X : Trellis A) where
     first-ceiling e =
         let out = first-closes X e in
         ap (ceilingTo X) (first-last X out) ∙ first-top ∙ sym (ap (λ (f : Found A). f .score) (first-out X out))
+
+    pub first-reached : 0 < X .states → search X .how ≡ closing 1 → X .scale .gt (ceiling X) (search X .score) ≡ false
+    unfolding begin
+    first-reached some-state e =
+        let f = begin X 0 in
+        let end-lt = highest-lt (X .scale) (final X f) (X .states) some-state in
+        let ok-end = scores-ok X L f (λ s l. L .nil-ok) (X .steps) (omega arith) end-lt in
+        let is-end : search X .score ≡ final X f (endState X f) =
+        ap (λ (g : Found A). g .score) (first-out X (first-closes X e)) ∙ L .sub-nil ok-end in
+        (λ i. X .scale .gt ((first-ceiling e ∙ is-end) i) (is-end i)) ∙ itself (final X f (endState X f)) ok-end _ refl
+      where
+        itself : (a : A) → ok (X .steps) a → (t : Bool) → X .scale .gt a a ≡ t → X .scale .gt a a ≡ false
+        itself a o true e = absurd (L .gt-not-le (rw e tt) (L .le-refl o))
+        itself a o false e = e
 
 -- the whole numbers, 2 ^ K states and K steps or more
 module _ (K n : ℕ) (long : K ≤ n) (earn : ℕ → ℕ → ℤ) where

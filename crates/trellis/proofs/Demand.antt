@@ -1,5 +1,5 @@
--- DEMAND 3 of document 01's search, and its ceiling: the theorems on what a search hands out, at the whole numbers, carried to f32 by the
--- simulation. Assumes nothing.
+-- DEMAND 3 of document 01's search, its ceiling, and what Sure means: the theorems on what a search hands out, at the whole numbers, carried to f32
+-- by the simulation. Assumes nothing.
 use Prim.Native.Nat.{ℕ, zero, suc, _*_, _%_, _^_, _≤_, _<_}
 use mathlib.Core.Path.{_≡_, refl, sym, ap, _∙_, subst}
 use mathlib.Core.Bool.{Bool, false, not}
@@ -19,20 +19,21 @@ use Rattle.conv.specs.Encoder.{made, bit}
 use Rattle.conv.proofs.Closed.{made-below, ends-made, closed}
 use Rattle.trellis.specs.Scale.{Scale}
 use Rattle.trellis.specs.Trellis.{Trellis, walkScore, closedScore}
-use Rattle.trellis.specs.Search.{How, closing, candidate, unclosed, Found, search, ceiling}
-use Rattle.trellis.specs.Answer.{Answer, Outcome, Sure, Kept, Open, outcomeOf, scoreIn, HandedOutAsClosed, OutInFirstPass}
+use Rattle.trellis.specs.Search.{closing, unclosed, Found, search, ceiling}
+use Rattle.trellis.specs.Answer.{Answer, OutInFirstPass}
 use Rattle.trellis.specs.Numbers.{single, whole}
 use Rattle.trellis.specs.Terms.{header, lent, documentSearch, WholeTerms}
 use Rattle.trellis.specs.Demand as Demand
-use Rattle.trellis.specs.Demand.{walk, Another, BestWord, NoneAbove, Demand3}
+use Rattle.trellis.specs.Demand.{walk, Another, BestWord, NoneAbove, Unbeaten, Demand3}
 use Rattle.trellis.proofs.Paths.{bit-lt}
 use Rattle.trellis.proofs.Best.{Ranked}
-use Rattle.trellis.proofs.Handed.{Closing, Group, search-exact, first-exact, search-optimal, search-unique}
+use Rattle.trellis.proofs.Handed.{Closing, Group, ended, search-exact, first-exact, search-optimal, search-unique}
 use Rattle.trellis.proofs.Integers.{≤ℤ-trans, group, ranked}
 use Rattle.trellis.proofs.Alike.{Same, SamePass}
 use Rattle.trellis.proofs.Exact.{Stands, Term, follows-whole}
 use Rattle.trellis.proofs.Metric.{header-pass, header-alike, header-ceiling, walk-alike}
-use Rattle.trellis.proofs.Ceiling.{none-above}
+use Rattle.trellis.proofs.Ceiling.{first-reached, none-above}
+use Rattle.trellis.proofs.Outcomes.{score-is, not-open, sure-closed, sure-says, first-is, first-sure}
 use Rattle.trellis.proofs.Sent.{sent-earns}
 
 -- ---- the search over any kind of score, with 2 ^ K states and K steps or more
@@ -68,26 +69,6 @@ module _ {A : Type 0} (S : Scale A) (K : ℕ) (two : 0 < K) (n : ℕ) (long : K 
         let p-lt = made-below (bit w) (bit-lt w) n K in
         search-unique Y L (states-even K two) (pow-pos K) (made (bit w) n K) w p-lt (closed (bit w) (bit-lt w) K n long) beats
 
--- ---- what an outcome says of how its word came
-
-pub score-is : {A : Type 0} (h : How) (x : A) → scoreIn (outcomeOf h x) ≡ x
-score-is (closing k) x = refl
-score-is candidate x = refl
-score-is unclosed x = refl
-
-abbrev passIn : {A : Type 0} → Outcome A → ℕ
-passIn (Sure x pass) = pass
-passIn (Kept x) = 0
-passIn (Open x) = 0
-
-pub first-is : {A : Type 0} (h : How) (x : A) → OutInFirstPass (outcomeOf h x) → h ≡ closing 1
-first-is (closing k) x (y, e) = ap closing (ap passIn e)
-first-is candidate x (y, e) = let z : _≡_ {A = ℕ} 0 1 = ap passIn e in absurd (omega arith)
-first-is unclosed x (y, e) = let z : _≡_ {A = ℕ} 0 1 = ap passIn e in absurd (omega arith)
-
-not-open : {A : Type 0} (h : How) (x : A) → HandedOutAsClosed (outcomeOf h x) → h ≡ unclosed → ⊥
-not-open h x c e = c x (ap (λ (i : How). outcomeOf i x) e)
-
 -- ---- the header read
 
 -- a closed word is a walk too, so what is at least every walk is at least every word
@@ -114,6 +95,9 @@ module _ (mode kind : ℕ) (terms : List Float) (ints : ℕ → ℤ) (all : leng
 
   abbrev I : Found ℤ
   I = search (header whole mode kind ints)
+
+  abbrev top : Float
+  top = ceiling (header single mode kind (lent terms))
 
   stand : (i : ℕ) → i < 260 * headerBits kind → Term 800 (lent terms i) (ints i)
   stand i l =
@@ -143,34 +127,43 @@ module _ (mode kind : ℕ) (terms : List Float) (ints : ℕ → ℤ) (all : leng
       ap (Demand.closed whole mode kind ints) (same .word)
       ∙ exact whole 14 (lit< tt) (headerBits kind) (header-long kind) earnZ group (λ e. out (same .how ∙ e))
 
+  -- the ceiling is that of the search over the whole numbers,
+  is-ceiling : Whole top (ceiling (header whole mode kind ints))
+  is-ceiling = header-ceiling (follows-whole 3584000 (lit≤ tt)) mode kind 800 (lent terms) ints stand (lit≤ tt) .whole
+
+  -- and out by closing in the first pass the score is not below it
+  first-not-below : I .how ≡ closing 1 → lt (F .score) top ≡ false
+  first-not-below e = lt-whole (same .score .whole) is-ceiling ∙ first-reached (header whole mode kind ints) ranked (lit< tt) e
+
   pub demand-3 : Demand3 mode kind ints terms (documentSearch mode kind terms)
   demand-3 =
       record {
         given = refl;
-        exact = λ c. rw (score-is (F .how) (F .score), closed-score (not-open (F .how) (F .score) c)) (same .score .whole);
+        exact = λ c. rw (score-is single (F .score) top (F .how), closed-score (not-open single (F .score) top (F .how) c)) (same .score .whole);
         sent = sent-earns mode kind ints;
         best = best-word whole mode kind ints
             (λ o p w hp _.
             subst (λ (v : ℕ). walk whole mode kind ints p w ≤ℤ Demand.closed whole mode kind ints v) (sym (same .word))
-            (optimal whole 14 (lit< tt) (headerBits kind) (header-long kind) earnZ ranked (sym (same .how) ∙ first-is (F .how) (F .score) o) hp w))
+            (optimal whole 14 (lit< tt) (headerBits kind) (header-long kind) earnZ ranked (sym (same .how) ∙ first-is single (F .score) top (F .how) o) hp w))
             (λ w _ beats.
             let u = unique whole 14 (lit< tt) (headerBits kind) (header-long kind) earnZ ranked w (λ p v hp hv other. beats p v hp hv other .lt) in
-            (same .word ∙ u .0, (F .score, ap (λ (i : How). outcomeOf i (F .score)) (same .how ∙ u .1))));
+            (same .word ∙ u .0, (F .score, first-sure single (F .score) top (same .how ∙ u .1) (first-not-below (u .1)))));
       }
 
-  -- and no closed word is above the ceiling, which is that of the search over the whole numbers
+  -- no closed word is above the ceiling,
   pub bounded : NoneAbove Whole _≤ℤ_ mode kind ints (documentSearch mode kind terms)
   bounded =
       record {
         bound = ceiling (header whole mode kind ints);
-        is = header-ceiling (follows-whole 3584000 (lit≤ tt)) mode kind 800 (lent terms) ints stand (lit≤ tt) .whole;
+        is = is-ceiling;
         none-above = λ w h. none-above 14 (headerBits kind) (header-long kind) earnZ w;
       }
 
-  -- so a word handed out as closed, in whichever pass, whose score is not below the ceiling is beaten by no closed word
-  pub none-beats : HandedOutAsClosed (documentSearch mode kind terms .outcome)
-      → lt (scoreIn (documentSearch mode kind terms .outcome)) (documentSearch mode kind terms .ceiling) ≡ false → (w : ℕ) → w < 2 ^ headerBits kind
-      → Demand.closed whole mode kind ints w ≤ℤ Demand.closed whole mode kind ints (documentSearch mode kind terms .word)
-  none-beats c e w h =
-      ≤ℤ-trans (bounded .none-above w h)
-      (ltZ-no (subst (λ (t : Bool). T (not t)) (sym e ∙ lt-whole (demand-3 .exact c) (bounded .is)) tt))
+  -- so none beats a Sure one, in whichever pass, since its score is not below it
+  pub unbeaten : Unbeaten _≤ℤ_ mode kind ints (documentSearch mode kind terms)
+  unbeaten (x, q, e) w h =
+      let above = sure-says single (F .score) top (ended (header single mode kind (lent terms))) x q e .1 in
+      ≤ℤ-trans (none-above 14 (headerBits kind) (header-long kind) earnZ w)
+      (subst (λ (z : ℤ). ceiling (header whole mode kind ints) ≤ℤ z)
+      (sym (closed-score (not-open single (F .score) top (F .how) (sure-closed single (F .score) top (F .how) (x, q, e)))))
+      (ltZ-no (subst (λ (t : Bool). T (not t)) (sym above ∙ lt-whole (same .score .whole) is-ceiling) tt)))

@@ -3,7 +3,7 @@
 -- and beats all others. Assumes nothing.
 use Prim.Native.Nat.{ℕ, zero, suc, _%_, _^_, _≤_, _<_}
 use mathlib.Core.Path.{_≡_, refl, sym, ap, ap₂, _∙_, subst}
-use mathlib.Core.Bool.{Bool, true, false, _&&_}
+use mathlib.Core.Bool.{Bool, true, false, true≢false, _&&_}
 use mathlib.Core.Option.{Option, none, some}
 use native.Mathlib.Decide.{ℕ-discrete}
 use native.Mathlib.Omega.{arith}
@@ -37,6 +37,12 @@ pub record Group {A : Type 0} (S : Scale A) : Type 0 where
   pub add-nil : (a : A) → S .add a (S .nil) ≡ a
   pub add-assoc : (a b c : A) → S .add (S .add a b) c ≡ S .add a (S .add b c)
   pub add-sub : (a b : A) → S .sub (S .add a b) a ≡ b
+
+-- How a search that ran n passes ended: by closing in the last of them; or, where this was the third, with a candidate, or with neither.
+pub data Ended (n : ℕ) : How → Type 0 where
+  by-closing : Ended n (closing n)
+  by-candidate : n ≡ 3 → Ended n candidate
+  by-neither : n ≡ 3 → Ended n unclosed
 
 -- tells the ways apart
 abbrev pub passOf : How → ℕ
@@ -100,25 +106,70 @@ module _ {A : Type 0} (X : Trellis A) where
       go true e = let z : suc (last X) ≡ p = ap passOf e in (omega arith, omega (arith, last-most))
       go false e = absurd (not-closing (best X 3) p e)
 
-  -- ---- candidates
+  -- ---- the pass is the last one run, and a candidate comes after the third
 
-  -- what holds of every state's word and gain where its traceback closes, in each pass, holds of the best candidate
-  module _ {P : ℕ → A → Type 0} (each : (k s : ℕ) → s < X .states → T (closes X (begin X k) s) → P (wordOf X (begin X k) s) (gainOf X (begin X k) s)) where
-    one-more : (k s : ℕ) (b : Option (Candidate A)) → s < X .states → Each P b → (c d : Bool) → closes X (begin X k) s ≡ c
+  third : closesIn X (last X) ≡ false → last X ≡ 2
+  unfolding last
+  third e = which (closesIn X 0) (closesIn X 1) refl refl e
+    where
+      which : (c d : Bool) → closesIn X 0 ≡ c → closesIn X 1 ≡ d → closesIn X (choose c 0 (choose d 1 2)) ≡ false
+          → _≡_ {A = ℕ} (choose c 0 (choose d 1 2)) 2
+      which true d p q e = absurd (true≢false (sym p ∙ e))
+      which false true p q e = absurd (true≢false (sym q ∙ e))
+      which false false p q e = refl
+
+  settled-ended : (o : Option (Candidate A)) {n : ℕ} → n ≡ 3 → Ended n (settled X o .how)
+  unfolding settled
+  settled-ended none e = by-neither e
+  settled-ended (some c) e = by-candidate e
+
+  pub ended : Ended (suc (last X)) (search X .how)
+  unfolding search
+  ended = go (closesIn X (last X)) refl
+    where
+      go : (c : Bool) → closesIn X (last X) ≡ c → Ended (suc (last X)) (picked c .how)
+      go true e = by-closing
+      go false e = settled-ended (best X 3) (ap suc (third e))
+
+  -- ---- closing states
+
+  -- what holds of every state's word and gain where its traceback closes, in each pass, holds of the best candidate,
+  module _ (P : ℕ → A → Type 0)
+      (each : (k s : ℕ) → k ≤ 2 → s < X .states → T (closes X (begin X k) s) → P (wordOf X (begin X k) s) (gainOf X (begin X k) s)) where
+    one-more : (k s : ℕ) (b : Option (Candidate A)) → k ≤ 2 → s < X .states → Each P b → (c d : Bool) → closes X (begin X k) s ≡ c
         → Each P (choose (c && d) (some (record { word = wordOf X (begin X k) s; gain = gainOf X (begin X k) s })) b)
-    one-more k s b h g true true e = a-best (each k s h (rw e tt))
-    one-more k s b h g true false e = g
-    one-more k s b h g false d e = g
+    one-more k s b l h g true true e = a-best (each k s l h (rw e tt))
+    one-more k s b l h g true false e = g
+    one-more k s b l h g false d e = g
 
-    candidates-each : (k : ℕ) (b : Option (Candidate A)) (m : ℕ) → m ≤ X .states → Each P b → Each P (candidates X (begin X k) b m)
+    candidates-each : (k : ℕ) (b : Option (Candidate A)) (m : ℕ) → k ≤ 2 → m ≤ X .states → Each P b → Each P (candidates X (begin X k) b m)
     unfolding candidates
-    candidates-each k b zero h g = g
-    candidates-each k b (suc m) h g = one-more k m _ h (candidates-each k b m (omega arith) g) _ _ refl
+    candidates-each k b zero l h g = g
+    candidates-each k b (suc m) l h g = one-more k m _ l h (candidates-each k b m l (omega arith) g) _ _ refl
 
-    best-each : (k : ℕ) → Each P (best X k)
+    best-each : (k : ℕ) → k ≤ 3 → Each P (best X k)
     unfolding best
-    best-each zero = no-best
-    best-each (suc k) = candidates-each k (best X k) (X .states) (omega arith) (best-each k)
+    best-each zero l = no-best
+    best-each (suc k) l = candidates-each k (best X k) (X .states) (omega arith) (omega arith) (best-each k (omega arith))
+
+    settled-each : (o : Option (Candidate A)) → Each P o → (settled X o .how ≡ unclosed → ⊥) → P (settled X o .word) (settled X o .score)
+    unfolding settled
+    settled-each none g out = absurd (out refl)
+    settled-each (some c) (a-best g) out = g
+
+    -- and so of whatever is not handed out as unclosed: a word that is out by closing has its end state's gain for its score
+    pub search-each : 0 < X .states → (search X .how ≡ unclosed → ⊥) → P (search X .word) (search X .score)
+    unfolding search closesIn
+    search-each some-state = go (closesIn X (last X)) refl
+      where
+        go : (c : Bool) → closesIn X (last X) ≡ c → (picked c .how ≡ unclosed → ⊥) → P (picked c .word) (picked c .score)
+        go true e out =
+            let f = begin X (last X) in
+            let s = endState X f in
+            let t : T (closes X f s) = rw e tt in
+            subst (λ (p : ℕ). P (wordOf X f s) (X .scale .sub (final X f s) (f p))) (sym (eqb→eq _ _ t))
+            (each (last X) s last-most (highest-lt (X .scale) (final X f) (X .states) some-state) t)
+        go false e out = settled-each (best X 3) (best-each 3 (omega arith)) out
 
   -- ---- the word has n bits
 
@@ -133,7 +184,7 @@ module _ {A : Type 0} (X : Trellis A) where
     where
       go : (c : Bool) → picked c .word < 2 ^ X .steps
       go true = trace-word-lt (X .states) (decision X (begin X (last X))) (X .steps) _
-      go false = settled-short (best X 3) (best-each (λ k s h t. trace-word-lt (X .states) (decision X (begin X k)) (X .steps) s) 3)
+      go false = settled-short (best X 3) (best-each (λ w x. w < 2 ^ X .steps) (λ k s l h t. trace-word-lt (X .states) (decision X (begin X k)) (X .steps) s) 3 (omega arith))
 
   -- ---- a traceback that closes, where its score is what its walk earns
 
@@ -177,24 +228,9 @@ module _ {A : Type 0} (X : Trellis A) (G : Group (X .scale)) (even : X .states %
       subst (λ (p : ℕ). Closing X (wordOf X f s) (X .scale .sub (final X f s) (f p))) (eqb→eq _ _ t)
       (traced-closing X even some-state f h (gained f h) t)
 
-  settled-closing : (o : Option (Candidate A)) → Each (Closing X) o → (settled X o .how ≡ unclosed → ⊥)
-      → Closing X (settled X o .word) (settled X o .score)
-  unfolding settled
-  settled-closing none g out = absurd (out refl)
-  settled-closing (some c) (a-best g) out = g
-
   -- EXACT, of whatever is not handed out as unclosed, in any pass
   pub search-exact : (search X .how ≡ unclosed → ⊥) → Closing X (search X .word) (search X .score)
-  unfolding search closesIn
-  search-exact = go (closesIn X (last X)) refl
-    where
-      go : (c : Bool) → closesIn X (last X) ≡ c
-          → (picked X c .how ≡ unclosed → ⊥)
-          → Closing X (picked X c .word) (picked X c .score)
-      go true e out =
-          let s-lt = end-lt X even some-state (begin X (last X)) in
-          traced-closing X even some-state (begin X (last X)) s-lt (gained (begin X (last X)) s-lt) (rw e tt)
-      go false e out = settled-closing (best X 3) (best-each X (λ k s h t. gain-closing (begin X k) h t) 3) out
+  search-exact = search-each X (Closing X) (λ k s l h t. gain-closing (begin X k) h t) some-state
 
 -- ---- the first pass
 

@@ -1,5 +1,5 @@
--- The search worked out on a small code of 4 states and 2 steps: each way a word can come out, as the Rust's decode_tb gives it, and ceilings.
--- Assumes nothing.
+-- The search worked out on a small code of 4 states and 2 steps: each way a word can come out, as the Rust's decode_tb gives it; ceilings, and each
+-- outcome that they give. Assumes nothing.
 use Prim.Native.Nat.{ℕ}
 use mathlib.Core.Path.{_≡_, refl}
 use mathlib.Core.List.{List, [], _∷_}
@@ -11,6 +11,7 @@ use Rattle.trellis.specs.Scale.{Scale, highest}
 use Rattle.trellis.specs.Trellis.{Trellis}
 use Rattle.trellis.specs.Search.{closing, candidate, unclosed, topOf, traceStart, traceWord, beats, scores}
 use Rattle.trellis.specs.Search.{decision, candidates, begin, closesIn, last, ceilingTo, ceiling, best, settled, search}
+use Rattle.trellis.specs.Answer.{Answer, Sure, Likely, Kept, Open, answerOf}
 use Rattle.trellis.specs.Numbers.{single, whole}
 
 -- what registers 0 to 7 earn at step 0, and at step 1
@@ -56,14 +57,38 @@ left-open = refl
 tiny : {A : Type 0} → Scale A → (ℕ → A) → List ℕ → List ℕ → Trellis A
 tiny S of a b = record { scale = S; states = 2; steps = 2; earn = λ j r. of (getD (getD (a ∷ b ∷ []) j []) r 0) }
 
--- tops of 4 and 3; out in the second pass with score 2, and no closed word scores more: the ceiling need not be reached
-unreached : search (tiny whole pos (0 ∷ 0 ∷ 0 ∷ 2 ∷ []) (0 ∷ 1 ∷ 2 ∷ 0 ∷ [])) ≡ record { how = closing 2; word = 1; score = pos 2 }
-unfolding tiny search settled best last closesIn begin candidates beats traceStart traceWord highest scores decision
-unreached = refl
+answered : List ℕ → List ℕ → Answer ℤ
+answered a b = answerOf whole (search (tiny whole pos a b)) (ceiling (tiny whole pos a b))
 
-unreached-ceiling : ceiling (tiny whole pos (0 ∷ 0 ∷ 0 ∷ 2 ∷ []) (0 ∷ 1 ∷ 2 ∷ 0 ∷ [])) ≡ pos 3
-unfolding tiny ceiling ceilingTo last closesIn begin traceStart highest scores decision
-unreached-ceiling = refl
+-- out in the first pass, at the ceiling as ever
+sure-first : answered [] [] ≡ record { word = 0; outcome = Sure (pos 0) 1; ceiling = pos 0 }
+unfolding answered tiny search settled best last closesIn begin candidates beats traceStart traceWord highest scores decision ceiling ceilingTo
+sure-first = refl
+
+-- tops of 4 and 3; out in the second pass with score 2, and no closed word scores more: the ceiling need not be reached, and a Likely word may be the
+-- best one
+likely-second : answered (0 ∷ 0 ∷ 0 ∷ 2 ∷ []) (0 ∷ 1 ∷ 2 ∷ 0 ∷ []) ≡ record { word = 1; outcome = Likely (pos 2) 2; ceiling = pos 3 }
+unfolding answered tiny search settled best last closesIn begin candidates beats traceStart traceWord highest scores decision ceiling ceilingTo
+likely-second = refl
+
+-- out in the second pass at the ceiling
+sure-second : answered [] (0 ∷ 0 ∷ 0 ∷ 1 ∷ []) ≡ record { word = 3; outcome = Sure (pos 1) 2; ceiling = pos 1 }
+unfolding answered tiny search settled best last closesIn begin candidates beats traceStart traceWord highest scores decision ceiling ceilingTo
+sure-second = refl
+
+-- a candidate of the first pass at the ceiling has the last pass run, and one below it is Kept
+sure-candidate : answered (0 ∷ 0 ∷ 0 ∷ 1 ∷ []) [] ≡ record { word = 3; outcome = Sure (pos 1) 3; ceiling = pos 1 }
+unfolding answered tiny search settled best last closesIn begin candidates beats traceStart traceWord highest scores decision ceiling ceilingTo
+sure-candidate = refl
+
+kept-candidate : answered (0 ∷ 1 ∷ []) (1 ∷ 0 ∷ 0 ∷ 1 ∷ []) ≡ record { word = 0; outcome = Kept (pos 1); ceiling = pos 2 }
+unfolding answered tiny search settled best last closesIn begin candidates beats traceStart traceWord highest scores decision ceiling ceilingTo
+kept-candidate = refl
+
+-- an unclosed word at the ceiling stays Open
+open-at-ceiling : answered (0 ∷ 0 ∷ 0 ∷ 1 ∷ []) (0 ∷ 1 ∷ []) ≡ record { word = 1; outcome = Open (pos 1); ceiling = pos 1 }
+unfolding answered tiny search settled best last closesIn begin candidates beats traceStart traceWord highest scores decision ceiling ceilingTo
+open-at-ceiling = refl
 
 -- on 4 states, tops of 3, 3 and 2: the score of an unclosed word may lie above the ceiling
 open-above : search (small (0 ∷ 0 ∷ 0 ∷ 2 ∷ 0 ∷ 0 ∷ 1 ∷ 1 ∷ []) (0 ∷ 2 ∷ 0 ∷ 0 ∷ 0 ∷ 0 ∷ 0 ∷ 1 ∷ [])) ≡ record { how = unclosed; word = 3; score = pos 3 }

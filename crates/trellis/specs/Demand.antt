@@ -1,7 +1,8 @@
 -- What is claimed of a header read: demand 3, for terms that are whole numbers, and what holds of every read that is not refused. The words are
--- document 01's: a walk, a closed word, handed out as closed, out by closing in the first pass. Document 02, #106: the ceiling.
-use Prim.Native.Nat.{ℕ, _+_, _-_, _^_, _≤_, _<_}
+-- document 01's: a walk, a closed word, handed out as closed, out by closing in the first pass. Document 02, #106: the ceiling. #107: the outcomes.
+use Prim.Native.Nat.{ℕ, suc, _+_, _-_, _^_, _≤_, _<_}
 use mathlib.Core.Path.{_≡_}
+use mathlib.Core.Logic.{_↔_}
 use mathlib.Core.List.{List}
 use lib.Dec.{T}
 use lib.IntN.{ℤ, pos, _+ℤ_}
@@ -15,8 +16,9 @@ use Rattle.frame.specs.Air.{slotOf}
 use Rattle.conv.specs.Encoder.{made, bit}
 use Rattle.conv.specs.Sent.{labels}
 use Rattle.trellis.specs.Scale.{Scale, sum}
-use Rattle.trellis.specs.Trellis.{walkScore, closedScore}
-use Rattle.trellis.specs.Answer.{Answer, scoreIn, HandedOutAsClosed, OutInFirstPass}
+use Rattle.trellis.specs.Trellis.{Trellis, walkScore, closedScore}
+use Rattle.trellis.specs.Search.{closing, candidate, unclosed, last, search}
+use Rattle.trellis.specs.Answer.{Answer, Sure, Likely, Kept, Open, scoreIn, HandedOutAsClosed, OutInFirstPass, IsSure}
 use Rattle.trellis.specs.Numbers.{single, whole}
 use Rattle.trellis.specs.Terms.{metric, header, lent, documentSearch, WholeTerms, UnitTerms}
 
@@ -56,7 +58,27 @@ pub record NoneAbove (Is : Float → ℤ → Type 0) (atMost : ℤ → ℤ → T
   pub is : Is (a .ceiling) bound
   pub none-above : (w : ℕ) → w < 2 ^ headerBits kind → atMost (closed whole mode kind ints w) bound
 
--- For accepted terms from -2^a to 2^a, in units of 2^-149 (so 2^(149+k) units are 2^k): 2^(a-9) bounds what rounding loses in a walk's score, and
+-- Document 02, #107: no closed word of that length beats a Sure one, whichever pass gave it; `atMost` compares their scores.
+abbrev pub Unbeaten : (ℤ → ℤ → Type 0) → ℕ → ℕ → (ℕ → ℤ) → Answer Float → Type 0
+Unbeaten atMost mode kind ints a =
+    IsSure (a .outcome) → (w : ℕ) → w < 2 ^ headerBits kind → atMost (closed whole mode kind ints w) (closed whole mode kind ints (a .word))
+
+-- Document 02, #107: which outcome is given when, by how the search X came to its word. Scores compare as Rust's <= and <.
+pub record Graded (X : Trellis Float) (a : Answer Float) : Type 0 where
+  -- Sure exactly when the word is out by closing or is the best candidate, and its score is at or above the ceiling; its pass is the last one run
+  pub sure : (x : Float) (q : ℕ) → (a .outcome ≡ Sure x q)
+      ↔ ((search X .how ≡ unclosed → ⊥) × T (le (a .ceiling) x) × (q ≡ suc (last X)) × (x ≡ search X .score))
+  -- Likely exactly when it is out by closing and stays below, with that pass, which is the second or the third
+  pub likely : (x : Float) (q : ℕ) → (a .outcome ≡ Likely x q) ↔ ((search X .how ≡ closing q) × T (lt x (a .ceiling)) × (x ≡ search X .score))
+  pub late : (x : Float) (q : ℕ) → a .outcome ≡ Likely x q → (2 ≤ q) × (q ≤ 3)
+  -- Kept exactly when it is the best candidate and stays below
+  pub kept : (x : Float) → (a .outcome ≡ Kept x) ↔ ((search X .how ≡ candidate) × T (lt x (a .ceiling)) × (x ≡ search X .score))
+  -- Open exactly when it is neither, wherever its score lies
+  pub undecided : (x : Float) → (a .outcome ≡ Open x) ↔ ((search X .how ≡ unclosed) × (x ≡ search X .score))
+  -- a word that is out by closing in the first pass is always Sure with pass 1
+  pub first : search X .how ≡ closing 1 → a .outcome ≡ Sure (search X .score) 1
+
+-- For accepted terms from -2^a to 2^a, in units of 2^-149 (so 2^(149+k) units are 2^k): 2^(a-9) bounds what rounding loses in a word's score, and
 -- twice as much what it loses between two
 abbrev pub lost : ℕ → ℕ
 lost a = 2 ^ (a + 149 - 9)
@@ -67,7 +89,7 @@ margin a = 2 ^ (a + 149 - 8)
 module _ (mode kind : ℕ) where
   -- Demand 3, a single claim about the whole read, for terms that are the whole numbers `ints`
   pub record Demand3 (ints : ℕ → ℤ) (terms : List Float) (a : Answer Float) : Type 0 where
-    -- (i) word and outcome, with score and pass, are those that document 01's search gives
+    -- (i) word and outcome, with score and pass, are those that document 01's search gives under #107's rules
     pub given : a ≡ documentSearch mode kind terms
     -- (ii) handed out as closed, the score is exactly what the closed word scores,
     pub exact : HandedOutAsClosed (a .outcome) → Whole (scoreIn (a .outcome)) (closed whole mode kind ints (a .word))
@@ -95,17 +117,21 @@ module _ (mode kind : ℕ) where
   pub record NearExact (a : ℕ) (ints : ℕ → ℤ) (terms : List Float) (ans : Answer Float) : Type 0 where
     -- a walk's f32 score is off from its exact score by at most 2^(a-9)
     pub near : (p w : ℕ) → Near 149 (lost a) (walk single mode kind (lent terms) p w) (walk whole mode kind ints p w)
-    -- so, out by closing in the first pass, the score is off from the closed word's exact score by no more,
-    pub exact : OutInFirstPass (ans .outcome) → Near 149 (lost a) (scoreIn (ans .outcome)) (closed whole mode kind ints (ans .word))
-    -- no walk's exact score, and so no word's, is above the closed word's by more than 2^(a-8), and a closed word whose exact score is above every
-    -- other walk's by more than that is handed out
+    -- handed out as closed, in whichever pass, the score is off from the closed word's exact score by no more
+    pub exact : HandedOutAsClosed (ans .outcome) → Near 149 (lost a) (scoreIn (ans .outcome)) (closed whole mode kind ints (ans .word))
+    -- out by closing in the first pass, no walk's exact score, and so no word's, is above the closed word's by more than 2^(a-8); and a closed word
+    -- whose exact score is above every other walk's by more than that is handed out
     pub best : BestWord whole (λ x y. x ≤ℤ (y +ℤ pos (margin a))) (λ x y. (x +ℤ pos (margin a)) <ℤ y) mode kind ints ans
-    -- whatever the outcome, no closed word's exact score is above the ceiling by more than 2^(a-8)
-    pub bounded : NoneAbove (Units 149) (λ x y. x ≤ℤ (y +ℤ pos (margin a))) mode kind ints ans
+    -- whatever the outcome, no closed word's exact score is above the ceiling by more than 2^(a-9)
+    pub bounded : NoneAbove (Units 149) (λ x y. x ≤ℤ (y +ℤ pos (lost a))) mode kind ints ans
+    -- Sure, in whichever pass, no closed word's exact score is above its own by more than 2^(a-8)
+    pub unbeaten : Unbeaten (λ x y. x ≤ℤ (y +ℤ pos (margin a))) mode kind ints ans
 
   -- what the header read promises of an answer, beside the equation for it
   pub record Claims (terms : List Float) (a : Answer Float) : Type 0 where
     pub whole : (ints : ℕ → ℤ) → WholeTerms 800 terms ints → Demand3 ints terms a
     pub bounded : (ints : ℕ → ℤ) → WholeTerms 800 terms ints → NoneAbove Whole _≤ℤ_ mode kind ints a
+    pub unbeaten : (ints : ℕ → ℤ) → WholeTerms 800 terms ints → Unbeaten _≤ℤ_ mode kind ints a
+    pub graded : Graded (header single mode kind (lent terms)) a
     pub any : AnyTerms terms a
     pub near : (k : ℕ) (ints : ℕ → ℤ) → k ≤ 20 → UnitTerms k terms ints → NearExact k ints terms a

@@ -38,9 +38,9 @@ header S mode kind terms =
 abbrev pub lent : List Float → ℕ → Float
 lent terms i = getD terms i nan
 
--- the answer of document 01's search, with its ceiling
+-- the answer of document 01's search, with its ceiling, and by this its outcome
 abbrev pub documentSearch : ℕ → ℕ → List Float → Answer Float
-documentSearch mode kind terms = answerOf (search (header single mode kind (lent terms))) (ceiling (header single mode kind (lent terms)))
+documentSearch mode kind terms = answerOf single (search (header single mode kind (lent terms))) (ceiling (header single mode kind (lent terms)))
 
 -- the terms are the whole numbers ints, each from -b to b
 pub record WholeTerms (b : ℕ) (terms : List Float) (ints : ℕ → ℤ) : Type 0 where

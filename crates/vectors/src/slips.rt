@@ -1,7 +1,8 @@
 // Slips by a record: what is 15 for one written, 152 for a string read. The argument has a seed in its lowest 32 bits, by which
 // the slip's values are drawn. Written: in 8 bits which value is another, if any, in 8 which other, and in 8 how many bytes are
 // lent; the answer is a digest of them. Read: in 8 bits a place of the slip's bytes, in 8 what is xored there, and in 8 how many
-// bytes the string has, a longer one going on with zeros; the answer is a digest of the values.
+// bytes the string has, a longer one going on with zeros; the answer is a digest of the values. In both the next bit says that the
+// slip drawn is a Likely (document 02, #107).
 ghost use mathlib.Core.Path.{_≡_};
 ghost use lib.ListN.{length};
 use slip::Fields;
@@ -21,15 +22,25 @@ fn word_of(kind: u8, x: u64) -> u64 {
     if kind == 1 { x } else { x >> 16 }
 }
 
-fn pass_of(outcome: u8, x: u64) -> u8 {
-    if outcome == 0 { (1 + x % 3) as u8 } else { 0 }
+// Likely where the bit for it is set, else one of the three that there were before.
+fn outcome_of(asked: u64, x: u64) -> u8 {
+    if (asked >> 56) % 2 == 1 { 3 } else { (x % 3) as u8 }
 }
 
-// The slip of a seed.
-fn made(seed: u64) -> Fields {
+fn pass_of(outcome: u8, x: u64) -> u8 {
+    match outcome {
+        0 => (1 + x % 3) as u8,
+        3 => (2 + x % 2) as u8,
+        _ => 0,
+    }
+}
+
+// The slip of a record's seed.
+fn made(asked: u64) -> Fields {
+    let seed = asked % 0x1_0000_0000;
     let x = drawn(seed, 0);
     let kind = (x / 2 % 3) as u8;
-    let outcome = (x / 8 % 3) as u8;
+    let outcome = outcome_of(asked, x / 8);
     Fields {
         mode: (x % 2) as u8,
         kind,
@@ -98,9 +109,9 @@ fn written(seed: u64, f: Fields, bytes: &mut [u8]) -> u64 {
 
 fn write_record(asked: u64) -> u64 {
     let seed = asked % 0x1_0000_0000;
-    let f = with_another(made(seed), (asked >> 32) % 256, ((asked >> 40) % 256) as u8);
+    let f = with_another(made(asked), (asked >> 32) % 256, ((asked >> 40) % 256) as u8);
     let mut bytes = [0u8; 64];
-    let n = ((asked >> 48) % 65) as usize;
+    let n = ((asked >> 48) % 256 % 65) as usize;
     written(seed, f, &mut bytes[..n])
 }
 
@@ -163,12 +174,12 @@ fn read_part(seed: u64, string: &[u8], n: usize) -> u64 {
     read(seed, &string[..n])
 }
 
-// The slip of a seed in the lent string, damaged, and as much of it as is asked for.
+// The slip of a record in the lent string, damaged, and as much of it as is asked for.
 fn read_over(seed: u64, asked: u64, string: &mut [u8]) -> u64 {
     if string.len() < 44 {
         return records::NONE;
     }
-    if write(made(seed), &mut string[..44]) != 0 {
+    if write(made(asked), &mut string[..44]) != 0 {
         return records::NONE;
     }
     damage(

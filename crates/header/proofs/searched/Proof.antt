@@ -10,6 +10,7 @@ use Rattle.search.specs.Lent.{Lent}
 use Rattle.search.proofs.Lengths.{same-lengths}
 use Rattle.header.proofs.Laid.{part-length, part-lent, lent-room, search-same, ceiling-same}
 use Rattle.trellis.specs.Answer.{Outcome, answerOf}
+use Rattle.trellis.specs.Numbers.{single}
 use Rattle.header.proofs.searched.Statement.{statement}
 use Rattle.header.proofs.searched.Tie as tie
 
@@ -89,7 +90,7 @@ returns c =
     let n = at .header-symbols in
     let list = rows .last .1 .1 .1 .0 in (
       ap (λ (o : Outcome Float). record { word = s .result .word; outcome = o; ceiling = s .result .ceiling }) (c .outcome-of .ensures)
-          ∙ ap₂ answerOf
+          ∙ ap₂ (answerOf single)
           (s .ensures .0 ∙ search-same (a .mode) (a .kind) (a .terms .now) list (rows .ensures .0) (rows .ensures .1) (n .result) (n .ensures))
           (s .ensures .1 .0 ∙ ceiling-same (a .mode) (a .kind) (a .terms .now) list (rows .ensures .0) (rows .ensures .1) (n .result) (n .ensures)),
       lent-room (a .mode) (a .kind) (a .terms .now) list (rows .ensures .0) (rows .ensures .1) (n .result) (n .ensures) (s .ensures .1 .1),
