@@ -1,4 +1,4 @@
-// A second segment board, written from document 02's words (#105): the Rust has none. It knows nothing of moving places: a put makes a map
+// A second segment board, written from document 02's words (#105, #107): the Rust has none. It knows nothing of moving places: a put makes a map
 // from segment to slip out of the listed places, judges in it, and lays the map out again. Slips are read by the second reader of slip.rs.
 #![allow(dead_code)] // not every program asks for all of it
 use super::slip::{Slip, read};
@@ -14,10 +14,11 @@ pub struct Board {
     pub count: u32,
 }
 
-/// How good a reading is: Sure above Kept above Open. That the numbers of the outcomes fall is another matter.
+/// How good a reading is: Sure above Likely above Kept above Open. The numbers of the outcomes have another order.
 pub fn rank(outcome: u8) -> u8 {
     match outcome {
-        0 => 30, // Sure
+        0 => 40, // Sure
+        3 => 30, // Likely
         1 => 20, // Kept
         2 => 10, // Open
         other => unreachable!("a lawful slip has no outcome {other}"),

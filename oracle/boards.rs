@@ -44,8 +44,8 @@ impl Both {
 
 /// The two yard rules on two slips of one segment, the start tried first, the reading between equal starts: which one remains.
 fn judged(listed: Slip, new: Slip) -> Slip {
-    let (sure, kept, open) = (0, 1, 2);
-    let better = [(sure, kept), (sure, open), (kept, open)].contains(&(new.outcome, listed.outcome));
+    let (sure, likely, kept, open) = (0, 3, 1, 2);
+    let better = [(sure, likely), (sure, kept), (sure, open), (likely, kept), (likely, open), (kept, open)].contains(&(new.outcome, listed.outcome));
     match new.start.cmp(&listed.start) {
         Ordering::Greater => new,
         Ordering::Equal if better => new,
@@ -112,12 +112,12 @@ fn few_segments(wrong: &mut bool) {
     }
 }
 
-/// One slip listed, and a new one for its segment: every two of ten starts, every two of five readings, either score the greater.
+/// One slip listed, and a new one for its segment: every two of ten starts, every two of seven readings, either score the greater.
 fn judgements(wrong: &mut bool) {
     let mut d = Dice(1105);
-    let mut s = Section::new("boards, every judgement of ten starts and five readings");
+    let mut s = Section::new("boards, every judgement of ten starts and seven readings");
     let starts = [0, 1, 2, 0xFF, 0x100, 0xFFFF_FFFF, 1 << 32, (1 << 63) - 1, 1 << 63, u64::MAX];
-    let readings = [(0, 1), (0, 2), (0, 3), (1, 0), (2, 0)];
+    let readings = [(0, 1), (0, 2), (0, 3), (3, 2), (3, 3), (1, 0), (2, 0)];
     let (start_pairs, reading_pairs) = (starts.map(|a| starts.map(|b| (a, b))), readings.map(|a| readings.map(|b| (a, b))));
     for &(old, new) in start_pairs.as_flattened() {
         for &((was, was_pass), (is, is_pass)) in reading_pairs.as_flattened() {
@@ -198,7 +198,7 @@ fn causes_together(wrong: &mut bool) {
     let boards = [
         good.clone(),
         changed(|b| b[0] = 2),
-        changed(|b| b[44 * 511 + 22] = 3),
+        changed(|b| b[44 * 511 + 22] = 4),
         changed(|b| b[..88].rotate_left(44)),
         changed(|b| b[44 * 510..].rotate_left(44)),
         changed(|b| b.copy_within(..44, 44)),
@@ -207,7 +207,7 @@ fn causes_together(wrong: &mut bool) {
     // listed segments and others; no slip at all, one cut off, gone on, of an outcome that none has, and two
     let mut strings: Vec<Vec<u8>> = [0, 100, 101, 103, 1633, 65_535].into_iter().map(|g| slip_for(&mut d, g)).collect();
     let (listed, mut other) = (slip_for(&mut d, 100), slip_for(&mut d, 101));
-    other[22] = 3;
+    other[22] = 4;
     strings.extend([vec![], listed[..43].to_vec(), [&listed[..], &[0]].concat(), other, [&listed[..], &listed].concat()]);
     for length in [0, 44, BYTES - 1, BYTES, BYTES + 1] {
         for count in [0, 1, 2, 510, 511, 512, 513, 1 << 16, 1 << 31, u32::MAX] {

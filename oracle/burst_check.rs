@@ -23,19 +23,19 @@ fn float(x: f32) -> String {
 fn expected(c: &ConvCode, b: &Burst, soft: bool, metrics: bool, told: Option<(u64, u16)>) -> (u64, bool, String) {
     let (mode, kind) = (MODES[b.mode as usize], KINDS[b.kind as usize]);
     let (bits, score, copy) = decode_terms_told(c, mode, kind, &rows(&b.header_terms));
-    let (how, pass) = (copy.kind, copy.pass);
+    let (outcome, pass) = copy.outcome(score);
     let word = bits.iter().rev().fold(0, |w, &b| w << 1 | b as u64);
     let n = bits.len() - 16;
     let good = air::crc16(&bits[..n], air::crc_start(b.layout as usize, mode, kind)) as u32 == air::read_bits(&bits[n..], 16);
     let blanked: Vec<f32> = b.blanked.iter().map(|&c| blanked_frac(c, b.window as usize, b.layout as usize)).collect();
     let out = soft_terms(mode, b.symbols, bits.len(), b.bits as usize, &rows(&b.data_terms), &blanked);
     let mut s = String::new();
-    let outcome = [format!("Sure, pass {pass}"), "Kept".into(), "Open".into()][how as usize].clone();
-    writeln!(s, "header {word:0w$x}\noutcome {outcome}\nscore {}\nceiling {}", float(score), float(copy.ceiling()), w = bits.len() / 4).unwrap();
+    let reading = slip::reading(outcome, pass);
+    writeln!(s, "header {word:0w$x}\noutcome {reading}\nscore {}\nceiling {}", float(score), float(copy.ceiling()), w = bits.len() / 4).unwrap();
     writeln!(s, "CRC {}", if good { "good" } else { "bad" }).unwrap();
     writeln!(s, "data symbols {}, erased {}", blanked.len(), blanked.iter().filter(|&&f| f > 0.5).count()).unwrap();
     if let Some((start, segment)) = told {
-        let slip = Slip { mode: b.mode, kind: b.kind, word, outcome: how, pass, score: score.to_bits(), start, segment };
+        let slip = Slip { mode: b.mode, kind: b.kind, word, outcome, pass, score: score.to_bits(), start, segment };
         writeln!(s, "slip {}", slip.written(44).unwrap().iter().map(|b| format!("{b:02x}")).collect::<String>()).unwrap();
     }
     if soft {
@@ -106,7 +106,7 @@ fn main() {
     }
     let all: u64 = args.first().map_or(200, |a| a.parse().unwrap());
     let mut d = Dice(2);
-    let (mut differ, mut floats, mut sent, mut wrong_good, mut outcomes, mut bad, mut older, mut slips, mut layouts) = (0, 0, 0, 0, [0; 3], 0, 0u64, 0u64, [0; 8]);
+    let (mut differ, mut floats, mut sent, mut wrong_good, mut outcomes, mut bad, mut older, mut slips, mut layouts) = (0, 0, 0, 0, [0; 4], 0, 0u64, 0u64, [0; 8]);
     for i in 0..all {
         let h = how(i, &mut d);
         let b = made(i, &h);
@@ -123,7 +123,7 @@ fn main() {
         let (out, err, status) = if i % 3 == 0 { run(&file, &words) } else { run_named(&file, &words, i % 3 == 1) };
         sent += (word == b.word) as u64;
         wrong_good += (word != b.word && good) as u64;
-        outcomes[["Sure", "Kept", "Open"].iter().position(|o| want.contains(o)).unwrap()] += 1;
+        outcomes[["Sure", "Likely", "Kept", "Open"].iter().position(|o| want.contains(o)).unwrap()] += 1;
         floats += want.matches('(').count();
         layouts[b.layout as usize - 1] += 1;
         if (out.as_str(), err.as_str(), status) != (want.as_str(), "", Some(0)) {
@@ -178,6 +178,6 @@ fn main() {
             println!("{what}: {err}{out}");
         }
     }
-    println!("{all} bursts, by layout {layouts:?}, {older} of them in files of version 0, {slips} with a slip: {floats} floats; Sure, Kept, Open {outcomes:?}; {sent} words as sent, {wrong_good} others with a good CRC; {bad} damaged files; {differ} differ");
+    println!("{all} bursts, by layout {layouts:?}, {older} of them in files of version 0, {slips} with a slip: {floats} floats; Sure, Likely, Kept, Open {outcomes:?}; {sent} words as sent, {wrong_good} others with a good CRC; {bad} damaged files; {differ} differ");
     std::process::exit((differ > 0) as i32);
 }

@@ -24,6 +24,9 @@ impl Exact {
     pub fn sub(&mut self, x: f32) {
         self.add(-x);
     }
+    pub fn less(self, other: Exact) -> Exact {
+        Exact { high: self.high - other.high, low: self.low - other.low }
+    }
     pub fn is_above_zero(self) -> bool {
         // the low part's whole 2^-60s to the high one; what is left of it is from 0 up to one such
         let (high, left) = (self.high + (self.low >> 89), self.low & ((1 << 89) - 1));
@@ -43,7 +46,16 @@ pub fn tried() -> Vec<(bool, bool)> {
         sum.is_above_zero()
     };
     let least = f32::from_bits(1);
+    let apart = |list: &[f32], other: &[f32]| {
+        let [mut a, mut b] = [Exact::default(); 2];
+        list.iter().for_each(|&x| a.add(x));
+        other.iter().for_each(|&x| b.add(x));
+        a.less(b).is_above_zero()
+    };
     vec![
+        (apart(&[1e6, least], &[1e6]), true),
+        (apart(&[1e6], &[least, 1e6]), false),
+        (apart(&[1.0, 1e6], &[1e6, 1.0]), false),
         (above(&[]), false),
         (above(&[0.0, -0.0]), false),
         (above(&[least]), true),

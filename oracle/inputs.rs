@@ -156,13 +156,17 @@ const NOT_FINITE: [u32; 8] = [0x7F80_0000, 0xFF80_0000, 0x7F80_0001, 0xFF80_0001
 /// A slip of any lawful values, the edges among them.
 pub fn lawful_slip(d: &mut Dice) -> Slip {
     let number = |d: &mut Dice| if d.below(4) == 0 { d.of(&EDGES) } else { d.word() };
-    let (kind, outcome) = (d.below(3) as u8, d.below(3) as u8);
+    let (kind, outcome) = (d.below(3) as u8, d.below(4) as u8);
     Slip {
         mode: d.below(2) as u8,
         kind,
         word: number(d) & if kind == 1 { u64::MAX } else { (1 << 48) - 1 },
         outcome,
-        pass: if outcome == 0 { 1 + d.below(3) as u8 } else { 0 },
+        pass: match outcome {
+            0 => 1 + d.below(3) as u8,
+            3 => 2 + d.below(2) as u8,
+            _ => 0,
+        },
         score: match d.below(3) {
             0 => d.of(&FINITE),
             1 => (d.below(2) as u32) << 31 | d.below(0x7F80_0000) as u32,

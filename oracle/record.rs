@@ -1,7 +1,7 @@
 // Writes recorded answers of the Rust to standard output, 17 bytes a record: for crates/vectors/stdin, or with the word
 // `series` fits and series of the tracker for crates/series/stdin, or with the word `boards` series of slips put on a board, by the model of board.rs, for
 // crates/board_series/stdin.
-use ion::phy_mfsk::hook::{Fmt, Kind, MfskMode, Terms, Told, Tracker, air, code, decode_terms, decode_terms_told, blanked_frac, fit_drift, soft_terms, windows};
+use ion::phy_mfsk::hook::{Fmt, Kind, MfskMode, Terms, Tracker, air, code, decode_terms, decode_terms_told, blanked_frac, fit_drift, soft_terms, windows};
 use board::Board;
 use slip::Slip;
 use std::io::Write;
@@ -111,16 +111,26 @@ fn series(mode: MfskMode, seed: u64, calls: usize) -> u64 {
     fields.into_iter().chain(shifts).chain(blocks).fold(h, |h, x| air::mix64(h ^ x))
 }
 
-/// The slip that crates/vectors draws from a seed.
-fn slip_of(seed: u64) -> Slip {
+/// The pass that a slip's outcome goes with, drawn from a word.
+fn pass_of(outcome: u8, x: u64) -> u8 {
+    match outcome {
+        0 => 1 + (x % 3) as u8,
+        3 => 2 + (x % 2) as u8,
+        _ => 0,
+    }
+}
+
+/// The slip that crates/vectors draws from what is asked: a seed, and in bit 56 whether it is a Likely.
+fn slip_of(asked: u64) -> Slip {
+    let (seed, likely) = (asked % REFUSED, (asked >> 56) % 2 == 1);
     let x = drawn(seed, 0);
-    let (kind, outcome, y) = ((x / 2 % 3) as u8, (x / 8 % 3) as u8, drawn(seed, 2));
+    let (kind, outcome, y) = ((x / 2 % 3) as u8, if likely { 3 } else { (x / 8 % 3) as u8 }, drawn(seed, 2));
     Slip {
         mode: (x % 2) as u8,
         kind,
         word: drawn(seed, 1) >> if kind == 1 { 0 } else { 16 },
         outcome,
-        pass: if outcome == 0 { 1 + (x / 32 % 3) as u8 } else { 0 },
+        pass: pass_of(outcome, x / 32),
         score: (y % 2) as u32 * 0x8000_0000 + (y / 2 % 0x7F80_0000) as u32,
         start: drawn(seed, 3),
         segment: (drawn(seed, 4) >> 48) as u16,
@@ -130,7 +140,7 @@ fn slip_of(seed: u64) -> Slip {
 /// The digest that crates/vectors makes of a slip written, one value another, into so many bytes, or its refusal.
 fn slip_written(asked: u64) -> u64 {
     let (seed, which, room) = (asked % REFUSED, (asked >> 40) as u8, (asked >> 48) % 256);
-    let mut s = slip_of(seed);
+    let mut s = slip_of(asked);
     match (asked >> 32) % 256 {
         1 => s.mode = which,
         2 => s.kind = which,
@@ -146,7 +156,7 @@ fn slip_written(asked: u64) -> u64 {
 /// The digest that crates/vectors makes of a string read, a slip's bytes damaged at one place, cut off or gone on, or its refusal.
 fn slip_read(asked: u64) -> u64 {
     let (seed, at, with, length) = (asked % REFUSED, (asked >> 32) % 256, (asked >> 40) as u8, (asked >> 48) % 256);
-    let mut string = slip_of(seed).written(44).unwrap();
+    let mut string = slip_of(asked).written(44).unwrap();
     string[at as usize] ^= with;
     string.resize(length as usize, 0);
     slip::read(&string).map_or_else(|k| REFUSED + k as u64, |s| {
@@ -155,7 +165,32 @@ fn slip_read(asked: u64) -> u64 {
     })
 }
 
-/// Document 02, #103: slips of every kind and outcome, and what each side refuses.
+/// Document 02, #107: Likely slips of either pass, other passes, and what each side refuses.
+fn likely_slips(put: Put) {
+    let likely = |seed: u64, second: u64, third: u64, length: u64| seed | second << 32 | third << 40 | length << 48 | 1 << 56;
+    let mut seeds = 9700..;
+    let mut write = |put: Put, place: u64, which: u64, room: u64| {
+        let asked = likely(seeds.next().unwrap(), place, which, room);
+        put(15, asked, slip_written(asked));
+    };
+    (0..6).for_each(|_| write(put, 0, 0, 44));
+    [43, 45].into_iter().for_each(|room| write(put, 0, 0, room));
+    for (place, which) in [(1, 2), (3, 63), (4, 0), (4, 1), (4, 4), (5, 0), (5, 1), (5, 2), (5, 3), (5, 4), (6, 0), (6, 3)] {
+        write(put, place, which, 44);
+    }
+    let mut seeds = 9800..;
+    let mut read = |put: Put, at: u64, with: u64, length: u64| {
+        let asked = likely(seeds.next().unwrap(), at, with, length);
+        put(152, asked, slip_read(asked));
+    };
+    (0..6).for_each(|_| read(put, 0, 0, 44));
+    [43, 45].into_iter().for_each(|length| read(put, 0, 0, length));
+    // the outcome's byte as Sure's, Open's, Kept's and 7, and every bit of the pass
+    [3, 1, 2, 4].into_iter().for_each(|with| read(put, 22, with, 44));
+    (0..4).for_each(|bit| read(put, 23, 1 << bit, 44));
+}
+
+/// Document 02, #103: slips of every kind and outcome that it has, and what each side refuses.
 fn slips(put: Put) {
     let mut seeds = 9000..;
     let mut next = || seeds.next().unwrap();
@@ -235,9 +270,9 @@ fn vectors(put: Put) {
             for seed in (first..first + 8).chain([late, open]) {
                 let t = terms(mode, kind, seed);
                 let (bits, score) = decode_terms(&c, mode, kind, &t);
-                let Told { kind: how, pass, .. } = decode_terms_told(&c, mode, kind, &t).2;
+                let (outcome, pass) = decode_terms_told(&c, mode, kind, &t).2.outcome(score);
                 let word = bits.iter().rev().fold(0, |w, &b| w << 1 | b as u64);
-                for (part, answer) in [word, how as u64 + 16 * pass as u64, score.to_bits() as u64].into_iter().enumerate() {
+                for (part, answer) in [word, outcome as u64 + 16 * pass as u64, score.to_bits() as u64].into_iter().enumerate() {
                     put((64 + part + 3 * (k + 3 * m)) as u8, seed, answer);
                 }
             }
@@ -280,11 +315,12 @@ fn vectors(put: Put) {
         put(7, z, air::mix64(z));
     }
     ceilings(put);
+    likely_slips(put);
 }
 
-/// Document 02, #106: ceilings of headers as those of the codes 64 to 81, by the copy of `decode_tb`'s loop to which make.sh adds the tops. For each
-/// mode and kind ten seeds, the first from 2,000, 3,000 .. on that are as wanted: out in pass 1, 2 or 3, Kept or Open, with the ceiling as the score
-/// or not. Their terms are whole, so that the least top is the last.
+/// Document 02, #106 and #107: ceilings of headers as those of the codes 64 to 81, by the copy of `decode_tb`'s loop to which make.sh adds the tops,
+/// and by them their outcomes, under those codes. For each mode and kind ten seeds, the first from 2,000, 3,000 .. on that are as wanted: out in pass
+/// 1, 2 or 3, a candidate or neither, with the ceiling as the score or not. Their terms are whole, so that the least top is the last.
 fn ceilings(put: Put) {
     // kind and pass as told, and whether the ceiling is the score; of those out in pass 3, which are few, either
     const WANTED: [(u8, u8, bool); 10] =
@@ -302,6 +338,8 @@ fn ceilings(put: Put) {
                 if let Some(place) = wanted.iter_mut().find(|w| **w == met) {
                     *place = None;
                     put((82 + k + 3 * m) as u8, seed, copy.ceiling().to_bits() as u64);
+                    let (outcome, pass) = copy.outcome(score);
+                    put((65 + 3 * (k + 3 * m)) as u8, seed, outcome as u64 + 16 * pass as u64);
                 }
             }
         }
@@ -356,20 +394,21 @@ fn drifts(put: Put) {
 }
 
 // A series of slips put on a board, for crates/board_series. `what` is 200. `asked` has a seed in bits 0 to 31, how many puts (n) in bits 32 to 47,
-// and a style in bits 48 and 49: an even one has few segments, an odd one many; 2 and 3 have damage. All numbers are u64; mix64 is the
-// papers'.
+// and a style in bits 48 to 50: an even one has few segments, an odd one many; 2, 3, 6 and 7 have damage; from 4 on there are Likely slips
+// (document 02, #107). All numbers are u64; mix64 is the papers'.
 //
 // The board: 22,528 bytes, byte i holds mix64(seed xor i) % 256; the count is 0.
 //
 // Put j, for j = 0 to n - 1, draws four words:
 //   x = mix64(seed xor (j << 32)), y = mix64(x), z = mix64(y), w = mix64(z)
 // and spells the slip with
-//   mode = x % 2, kind = (x / 2) % 3, outcome = (x / 8) % 3, pass = 1 + (x / 32) % 3 where the outcome is 0, else 0
+//   mode = x % 2, kind = (x / 2) % 3, outcome = (x / 8) % 3, from style 4 on (x / 8) % 4
+//   pass = 1 + (x / 32) % 3 where the outcome is 0, 2 + (x / 32) % 2 where it is 3, else 0
 //   score's pattern = (y % 2) * 0x8000_0000 + (y / 2) % 0x7F80_0000
 //   word = z where the kind is 1, else z >> 16
 //   start = (((x >> 8) % 4) << 62) xor ((x >> 10) % 2)
-//   segment = (x >> 16) % 8 in the styles 0 and 2, ((x >> 16) % 2048) * 31 in 1 and 3
-// in a string of 45 bytes, of which the last is 0, and puts its first 44 on the board. In the styles 2 and 3 w % 16 says what is otherwise:
+//   segment = (x >> 16) % 8 in the even styles, ((x >> 16) % 2048) * 31 in the odd ones
+// in a string of 45 bytes, of which the last is 0, and puts its first 44 on the board. In the styles with damage w % 16 says what is otherwise:
 //   0: byte (w >> 8) % 44 of the string is xored with 1 << ((w >> 16) % 8)
 //   1: the first (w >> 8) % 44 bytes of the string are put
 //   2: all 45 are put
@@ -384,20 +423,20 @@ fn drifts(put: Put) {
 // refusal's (13, not 2^32 + 13), and the count as the put left it, before it is set back; at the end, for each of the 22,528 bytes of the
 // board, the first one first, h = mix64(h xor byte).
 fn board_digest(asked: u64) -> u64 {
-    let (seed, n, style) = (asked % REFUSED, (asked >> 32) % 65536, (asked >> 48) % 4);
+    let (seed, n, style) = (asked % REFUSED, (asked >> 32) % 65536, (asked >> 48) % 8);
     let mut board = Board { bytes: (0..board::BYTES as u64).map(|i| air::mix64(seed ^ i) as u8).collect(), count: 0 };
     let mut h = seed;
     for j in 0..n {
         let x = drawn(seed, j as usize);
         let y = air::mix64(x);
         let z = air::mix64(y);
-        let (w, kind, outcome) = (air::mix64(z), (x / 2 % 3) as u8, (x / 8 % 3) as u8);
+        let (w, kind, outcome) = (air::mix64(z), (x / 2 % 3) as u8, (x / 8 % if style > 3 { 4 } else { 3 }) as u8);
         let slip = Slip {
             mode: (x % 2) as u8,
             kind,
             word: z >> if kind == 1 { 0 } else { 16 },
             outcome,
-            pass: if outcome == 0 { 1 + (x / 32 % 3) as u8 } else { 0 },
+            pass: pass_of(outcome, x / 32),
             score: (y % 2) as u32 * 0x8000_0000 + (y / 2 % 0x7F80_0000) as u32,
             start: (x >> 8) % 4 << 62 ^ (x >> 10) % 2,
             segment: if style % 2 == 1 { (x >> 16) % 2048 * 31 } else { (x >> 16) % 8 } as u16,
@@ -405,7 +444,7 @@ fn board_digest(asked: u64) -> u64 {
         let mut string = [slip.written(44).unwrap(), vec![0]].concat();
         let (number, bit, was) = ((w >> 8) as usize, 1u8 << (w >> 16) % 8, board.count);
         let (mut part, mut last, mut at) = (44, None, None);
-        match if style > 1 { w % 16 } else { 15 } {
+        match if style % 4 > 1 { w % 16 } else { 15 } {
             0 => string[number % 44] ^= bit,
             1 => part = number % 44,
             2 => part = 45,
@@ -429,13 +468,14 @@ fn board_digest(asked: u64) -> u64 {
     board.bytes.iter().fold(h, |h, &b| air::mix64(h ^ b as u64))
 }
 
-/// Document 02, #105: few segments, boards that fill, and both with damage.
+/// Document 02, #105: few segments, boards that fill, and both with damage; #107: the same with Likely slips.
 fn boards(put: Put) {
     let few = [0, 1, 2, 3, 4, 6, 9, 14, 20, 40, 70, 120].map(|n| (0, n));
     let many = [1, 2, 3, 10, 100, 250, 400, 550, 600, 650, 700, 700].map(|n| (1, n));
     let few_damaged = [1, 2, 4, 8, 12, 20, 30, 50, 80, 120, 200].map(|n| (2, n));
     let many_damaged = [20, 100, 400, 1600, 1600].map(|n| (3, n));
-    for ((style, n), seed) in few.into_iter().chain(many).chain(few_damaged).chain(many_damaged).zip(10_500u64..) {
+    let likely = [(4, 2), (4, 4), (4, 9), (4, 20), (4, 120), (5, 100), (5, 600), (5, 700), (6, 8), (6, 30), (6, 120), (7, 400), (7, 1600)];
+    for ((style, n), seed) in few.into_iter().chain(many).chain(few_damaged).chain(many_damaged).chain(likely).zip(10_500u64..) {
         let asked = seed | n << 32 | style << 48;
         put(200, asked, board_digest(asked));
     }

@@ -23,7 +23,7 @@ fn float(pattern: u32) -> String {
 }
 
 fn line(s: &Slip) -> String {
-    let outcome = [format!("Sure, pass {}", s.pass), "Kept".into(), "Open".into()][s.outcome as usize].clone();
+    let outcome = slip::reading(s.outcome, s.pass);
     let digits = if s.kind == 1 { 16 } else { 12 };
     format!("segment {}, word {:0digits$x}, {outcome}, score {}, start {}\n", s.segment, s.word, float(s.score), s.start)
 }

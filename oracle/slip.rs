@@ -1,5 +1,5 @@
-// A second writer and a second reader of slips, written from document 02's words (#103): the Rust has neither. The reader goes from field to
-// field by their tags and lengths, and knows nothing of the writer; a score is the pattern of its bits, so that any NaN can be told.
+// A second writer and a second reader of slips, written from document 02's words (#103, #107): the Rust has neither. The reader goes from
+// field to field by their tags and lengths, and knows nothing of the writer; a score is the pattern of its bits, so that any NaN can be told.
 #![allow(dead_code)] // not every program reads
 #[derive(Clone, Copy, Debug, PartialEq)]
 pub struct Slip {
@@ -14,15 +14,24 @@ pub struct Slip {
 }
 
 impl Slip {
-    /// Mode and kind named, zeros above a word's 48 bits, the pass of a Sure from 1 to 3 and else 0, a finite score.
-    pub fn is_lawful(&self) -> bool {
+    /// Mode and kind named, zeros above a word's 48 bits, a pass that goes with its outcome, a finite score.
+    fn holds(&self, goes: bool) -> bool {
         let short = self.kind == 1 || self.word >> 48 == 0;
-        let goes = match self.outcome {
+        self.mode < 2 && self.kind < 3 && short && goes && f32::from_bits(self.score).is_finite()
+    }
+
+    /// #103's values: the pass of a Sure from 1 to 3, of Kept and Open 0, and no other outcome.
+    pub fn was_lawful(&self) -> bool {
+        self.holds(match self.outcome {
             0 => (1..=3).contains(&self.pass),
             1 | 2 => self.pass == 0,
             _ => false,
-        };
-        self.mode < 2 && self.kind < 3 && short && goes && f32::from_bits(self.score).is_finite()
+        })
+    }
+
+    /// #107's: a Likely besides, its pass 2 or 3.
+    pub fn is_lawful(&self) -> bool {
+        self.was_lawful() || self.holds((self.outcome, self.pass) == (3, 2) || (self.outcome, self.pass) == (3, 3))
     }
 
     fn spelt(&self) -> Vec<u8> {
@@ -42,6 +51,17 @@ impl Slip {
             _ if !self.is_lawful() => Err(13),
             _ => Ok(self.spelt()),
         }
+    }
+}
+
+/// What a reading is called, with the pass of one that has it.
+pub fn reading(outcome: u8, pass: u8) -> String {
+    match outcome {
+        0 => format!("Sure, pass {pass}"),
+        1 => "Kept".into(),
+        2 => "Open".into(),
+        3 => format!("Likely, pass {pass}"),
+        other => unreachable!("there is no outcome {other}"),
     }
 }
 
@@ -68,10 +88,15 @@ fn parsed(mut string: &[u8]) -> Option<Slip> {
     let start = u64::from_be_bytes(field(left, 5)?);
     let segment = u16::from_be_bytes(field(left, 6)?);
     let slip = Slip { mode, kind, word, outcome, pass, score: u32::from_be_bytes([a, b, c, d]), start, segment };
-    (left.is_empty() && slip.is_lawful()).then_some(slip)
+    left.is_empty().then_some(slip)
 }
 
 /// The slip in a string of bytes, or the refusal's number.
 pub fn read(string: &[u8]) -> Result<Slip, u32> {
-    parsed(string).ok_or(13)
+    parsed(string).filter(Slip::is_lawful).ok_or(13)
+}
+
+/// The same as #103 had it.
+pub fn read_before(string: &[u8]) -> Result<Slip, u32> {
+    parsed(string).filter(Slip::was_lawful).ok_or(13)
 }

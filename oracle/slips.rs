@@ -1,7 +1,7 @@
 // Slips: our writer and reader against the second ones of slip.rs, bytes, values and refusals, and what must not have changed.
 use super::face;
 use super::inputs::{Dice, lawful_slip, spoil_slip};
-use super::slip::{Slip, read};
+use super::slip::{Slip, read, read_before};
 use super::{Section, told};
 
 /// What a place holds before a call, on either side of a lent buffer too.
@@ -14,7 +14,12 @@ fn write(s: &mut Section, slip: &Slip, room: usize) {
     let input = || format!("{slip:x?} into {room} bytes");
     let mut around = vec![UNTOUCHED; room + 16];
     let theirs = slip.written(room);
-    s.pair(told(face::write_slip(slip, &mut around[8..8 + room])), told(theirs.as_ref().err().copied().unwrap_or(0)), input);
+    let k = face::write_slip(slip, &mut around[8..8 + room]);
+    s.pair(told(k), told(theirs.as_ref().err().copied().unwrap_or(0)), input);
+    // what is no Likely is written, or refused, as before there was one
+    if slip.outcome != 3 && room == 44 {
+        s.pair((k == 0) as u64, slip.was_lawful() as u64, input);
+    }
     let mut whole = vec![UNTOUCHED; room + 16];
     if let Ok(bytes) = theirs {
         whole[8..52].copy_from_slice(&bytes);
@@ -22,13 +27,16 @@ fn write(s: &mut Section, slip: &Slip, room: usize) {
     s.pair((0..room + 16).filter(|&i| around[i] != whole[i]).count() as u64, 0, input);
 }
 
-/// One string read: the number, and the eight places.
+/// One string read: the number, and the eight places; and by #103's reader, but for an outcome byte of 3.
 fn string(s: &mut Section, bytes: &[u8]) {
     let (mut ours, theirs) = (PLACES, read(bytes));
     let k = face::read_slip(bytes, &mut ours);
     let input = || format!("{bytes:02x?}");
     s.pair(told(k), told(theirs.err().unwrap_or(0)), input);
     s.pair((ours != theirs.unwrap_or(PLACES)) as u64, 0, input);
+    if bytes.get(22) != Some(&3) {
+        s.pair((ours != read_before(bytes).unwrap_or(PLACES)) as u64, 0, input);
+    }
 }
 
 /// One to three values that a slip does not hold, or not with the others.
@@ -95,13 +103,21 @@ fn raw(s: &Slip) -> Vec<u8> {
 
 fn reading(wrong: &mut bool) {
     let mut d = Dice(1103);
-    let mut s = Section::new("the sample: R0, HeaderOnly, Kept 1.0, start 48,000, segment 7");
+    let mut s = Section::new("the sample: R0, HeaderOnly, Kept 1.0 and Likely 9.0 in pass 2, start 48,000, segment 7");
     let sample = Slip { mode: 0, kind: 0, word: 0xC0_0000_0000, outcome: 1, pass: 0, score: 0x3F80_0000, start: 48_000, segment: 7 };
     let spelt = "0100010002000100030008000000c00000000004000601003f800000050008000000000000bb800600020007";
     let bytes: Vec<u8> = (0..44).map(|i| u8::from_str_radix(&spelt[2 * i..2 * i + 2], 16).unwrap()).collect();
     write(&mut s, &sample, 44);
     string(&mut s, &bytes);
     s.pair((read(&bytes) != Ok(sample)) as u64, 0, || spelt.into());
+    // the same of a Likely, out in pass 2 with a score of 9
+    let likely = Slip { outcome: 3, pass: 2, score: 0x4110_0000, ..sample };
+    let spelt = "0100010002000100030008000000c000000000040006030241100000050008000000000000bb800600020007";
+    let bytes: Vec<u8> = (0..44).map(|i| u8::from_str_radix(&spelt[2 * i..2 * i + 2], 16).unwrap()).collect();
+    write(&mut s, &likely, 44);
+    string(&mut s, &bytes);
+    s.pair((read(&bytes) != Ok(likely)) as u64, 0, || spelt.into());
+    s.pair((read_before(&bytes) != Err(13)) as u64, 0, || spelt.into());
     s.end(wrong);
     let mut s = Section::new("strings of every length to 100: slips cut off, gone on, and anything else");
     for length in 0..=100 {

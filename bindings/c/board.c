@@ -14,7 +14,7 @@ static uint32_t count;
 static uint32_t put(uint16_t segment, uint64_t start, uint8_t outcome) {
     ion_slip s = {.mode = ION_R0, .kind = ION_CUE, .outcome = outcome, .segment = segment, .score = 1.0f, .start = start};
     uint8_t bytes[ION_SLIP] = {0};
-    s.pass = outcome == ION_SURE ? 1 : 0;
+    s.pass = outcome == ION_SURE ? 1 : outcome == ION_LIKELY ? 2 : 0;
     uint32_t k = ion_slip_to_bytes(&s, bytes, ION_SLIP);
     return k != 0 ? k : ion_put_slip(board, ION_BOARD_BYTES, &count, bytes, ION_SLIP);
 }
@@ -27,12 +27,12 @@ static int shows(uint32_t i, uint16_t segment, uint64_t start, uint8_t outcome) 
 }
 
 int main(void) {
-    static const char *const reading[] = {"Sure", "Kept", "Open"};
+    static const char *const reading[] = {[ION_SURE] = "Sure", [ION_KEPT] = "Kept", [ION_OPEN] = "Open", [ION_LIKELY] = "Likely"};
     ion_slip s;
-    /* segment 9 comes later once, then earlier; segment 4 is read better, then worse, at one start; segment 12 comes but once */
+    /* segment 9 comes later once, then earlier; segment 4 is read better twice, then worse, at one start; segment 12 comes but once */
     static const struct { uint16_t segment; uint32_t start; uint8_t outcome; } arrived[] = {
         {9, 48000, ION_SURE}, {4, 52000, ION_OPEN}, {9, 56000, ION_KEPT}, {12, 50000, ION_OPEN},
-        {9, 48000, ION_SURE}, {4, 52000, ION_KEPT}, {4, 52000, ION_OPEN},
+        {9, 48000, ION_SURE}, {4, 52000, ION_KEPT}, {4, 52000, ION_LIKELY}, {4, 52000, ION_KEPT}, {4, 52000, ION_OPEN},
     };
     int right = 1;
     for (size_t i = 0; i < sizeof arrived / sizeof *arrived; i++)
@@ -40,7 +40,7 @@ int main(void) {
     for (uint32_t i = 0; i < count; i++)
         if (ion_slip_from_bytes(&s, board + i * ION_SLIP, ION_SLIP) == 0)
             printf("segment %u start %llu %s\n", s.segment, (unsigned long long)s.start, reading[s.outcome]);
-    right = right && count == 3 && shows(0, 4, 52000, ION_KEPT) && shows(1, 9, 56000, ION_KEPT) && shows(2, 12, 50000, ION_OPEN);
+    right = right && count == 3 && shows(0, 4, 52000, ION_LIKELY) && shows(1, 9, 56000, ION_KEPT) && shows(2, 12, 50000, ION_OPEN);
 
     /* no slip at all; then a count that takes in a place which holds none: the board and its count stay as they were */
     memcpy(as_it_was, board, ION_BOARD_BYTES);

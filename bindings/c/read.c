@@ -1,4 +1,4 @@
-/* Sends a header, reads it back from clean terms, reads one that hardly anything was heard of, follows a late burst, and shows refusals. From
+/* Sends a header, reads it back from clean terms, reads two that hardly anything was heard of, follows a late burst, and shows refusals. From
  * the repository's root:
  *   rt staticlib ion
  *   cc -Iinclude bindings/c/read.c target/staticlib/libion.a -o target/read && target/read
@@ -34,7 +34,12 @@ static uint32_t read_terms(void) {
 
 /* What main expects of its second header. */
 static int is_of_ten(void) {
-    return word == 0x9D498A106EBEu && outcome == ION_SURE && pass == 2 && score == 9.0f && ceiling == 10.0f;
+    return word == 0x9D498A106EBEu && outcome == ION_LIKELY && pass == 2 && score == 9.0f && ceiling == 10.0f;
+}
+
+/* And of its third. */
+static int is_of_one(void) {
+    return word == 0xC000000000u && outcome == ION_SURE && pass == 3 && score == 1.0f && ceiling == 1.0f;
 }
 
 int main(void) {
@@ -52,7 +57,7 @@ int main(void) {
            pass, score, ceiling);
     int clean = word == sent && outcome == ION_SURE && pass == 1 && score == 8.0f * N && ceiling == score;
 
-    /* ten values in as many slots and nothing else: out in the second pass, below the ceiling, so that it may be beaten */
+    /* ten values in as many slots and nothing else: out in the second pass, below the ceiling, so that it may be beaten: Likely */
     static const struct { uint8_t slot, value; } few[] = {{5, 1}, {19, 10}, {16, 10}, {10, 22}, {41, 10}, {21, 20}, {26, 4}, {3, 10}, {34, 30}, {17, 5}};
     memset(terms, 0, sizeof terms);
     for (size_t i = 0; i < sizeof few / sizeof *few; i++)
@@ -63,10 +68,18 @@ int main(void) {
            outcome, pass, score, ceiling);
     int beneath = is_of_ten();
 
+    /* one value of one slot: no pass closes, but a candidate reaches the ceiling, so that no closed word beats it: Sure, in the last pass run */
+    memset(terms, 0, sizeof terms);
+    heard(14, 16, 1.0f);
+    if (read_terms() != 0)
+        return 1;
+    printf("of one value read %012llx, outcome %u, pass %u, score %g, ceiling %g\n", (unsigned long long)word, outcome, pass, score, ceiling);
+    int reaches = is_of_one();
+
     /* refused: the answer's five places are as they were */
     terms[7] = 1e7f;
     uint32_t refused = read_terms();
-    int kept = is_of_ten();
+    int kept = is_of_one();
     printf("with a term of 1e7: refused by number %u, %s\n", refused, ion_refusal(refused));
 
     /* a burst that comes later by 0.02 samples a symbol: what is left of that beside the shift moves energy to the late gate */
@@ -82,5 +95,5 @@ int main(void) {
     printf("after %zu symbols: %zu blocks, drift %.6f samples a symbol, shift %d\n", t.n, t.blocks, t.drift, t.shift);
     uint32_t full = ion_track(ION_R0, &t, shifts, ION_MOST_CALLS, places, ION_MOST_BLOCKS, timings, ION_MOST_BLOCKS, ION_MISSED, 0, 0, 0);
     printf("one symbol more: refused by number %u, %s\n", full, ion_refusal(full));
-    return !(clean && beneath && kept && refused == 6 && t.n == 2048 && t.blocks == 63 && full == 9);
+    return !(clean && beneath && reaches && kept && refused == 6 && t.n == 2048 && t.blocks == 63 && full == 9);
 }

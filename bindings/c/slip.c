@@ -35,16 +35,23 @@ int main(void) {
     int same = back.mode == told.mode && back.kind == told.kind && back.word == told.word && back.outcome == told.outcome &&
                back.pass == told.pass && back.score == told.score && back.start == told.start && back.segment == told.segment;
 
-    /* Sure in pass 4, which no slip holds: the buffer stays as it was */
+    /* Sure in pass 4 and Likely in pass 1, which no slip holds: the buffer stays as it was */
     memcpy(as_it_was, bytes, ION_SLIP);
     told.pass = 4;
     uint32_t unlawful = ion_slip_to_bytes(&told, bytes, ION_SLIP);
+    told.outcome = ION_LIKELY;
+    told.pass = 1;
+    uint32_t first = ion_slip_to_bytes(&told, bytes, ION_SLIP);
     int kept = memcmp(bytes, as_it_was, ION_SLIP) == 0;
     /* a byte too few, and a length that lies */
     uint32_t cut = ion_slip_from_bytes(&back, bytes, ION_SLIP - 1);
     bytes[41] = 3;
     uint32_t damaged = ion_slip_from_bytes(&back, bytes, ION_SLIP);
-    printf("Sure in pass 4, 43 bytes, a wrong length inside: refused by numbers %u, %u and %u, %s\n", unlawful, cut, damaged,
-           ion_refusal(damaged));
-    return !(same && kept && back.segment == 7 && unlawful == 13 && cut == 13 && damaged == 13);
+    printf("Sure in pass 4, Likely in pass 1, 43 bytes, a wrong length inside: refused by numbers %u, %u, %u and %u, %s\n", unlawful, first, cut,
+           damaged, ion_refusal(damaged));
+    /* Likely in pass 2 is byte 3 with its pass */
+    told.pass = 2;
+    int likely = ion_slip_to_bytes(&told, bytes, ION_SLIP) == 0 && bytes[22] == 3 && bytes[23] == 2 &&
+                 ion_slip_from_bytes(&back, bytes, ION_SLIP) == 0 && back.outcome == ION_LIKELY && back.pass == 2;
+    return !(same && kept && likely && back.segment == 7 && unlawful == 13 && first == 13 && cut == 13 && damaged == 13);
 }

@@ -1,5 +1,5 @@
 // A header read against `decode_tb` over the same terms. Most inputs close in the first pass, which is what a receiver meets and what
-// costs least; the rest are chosen so that every outcome is met often. The ceiling, which the Rust has not, is held to the copy of `decode_tb`'s
+// costs least; the rest are chosen so that every outcome is met often. Ceiling and outcome, which the Rust has not, are held to the copy of `decode_tb`'s
 // loop to which make.sh adds the passes' tops, and in rivals.rs to a second search.
 use crate::check::Check;
 use crate::face::Header;
@@ -10,7 +10,8 @@ use crate::rivals;
 use crate::small::{bad_name, header_bits, layout};
 use ion::phy_mfsk::hook::{Fmt, decode_terms_told, windows};
 
-const OUTCOMES: &[&str] = &["Sure 1", "Sure 2", "Sure 3", "Kept", "Open"];
+/// By outcome and pass; that a Sure of pass 3 was a candidate is told apart.
+pub const OUTCOMES: &[&str] = &["Sure 1", "Sure 2", "Sure 3", "Sure candidate", "Likely 2", "Likely 3", "Kept", "Open"];
 
 /// Over all headers answered: how many were searched in 1, 2, 3 passes; of how many the ceiling is not the first pass's top, not the last one's,
 /// not the score (each must be met in a whole run, else one of these would pass for the least top); and of how many the score is above it.
@@ -51,8 +52,11 @@ pub struct Answered {
     pub score: f32,
     pub ceiling: f32,
     pub passes: usize,
+    pub is_sure: bool,
+    /// Handed out as closed: anything but Open.
+    pub is_closed: bool,
     /// Out by closing in the first pass.
-    pub first: bool,
+    pub is_first: bool,
 }
 
 /// What is lent, with other bits in every place of it.
@@ -92,22 +96,28 @@ pub fn read(o: &Oracle, c: &mut Check, d: &mut Dice, mode: u8, kind: u8, mut ter
         c.refused(want);
     } else {
         let (bits, score, copy) = decode_terms_told(&o.code, MODES[mode as usize], KINDS[kind as usize], &rows(&before));
-        let (outcome, pass, ceiling) = (copy.kind, copy.pass, copy.ceiling());
+        let ((outcome, pass), ceiling) = (copy.outcome(score), copy.ceiling());
         let word = bits.iter().rev().fold(0u64, |w, &b| w << 1 | b as u64);
-        let first = (outcome, pass) == (0, 1);
+        let is_first = (copy.kind, copy.pass) == (0, 1);
         c.one("word", &mut ours.word, word);
         c.one("outcome", &mut ours.outcome, outcome);
         c.one("pass", &mut ours.pass, pass);
         c.one("score", &mut ours.score, score);
         c.one("ceiling", &mut ours.ceiling, ceiling);
-        if first {
+        if is_first {
             c.one("ceiling of the first pass, as its score", &mut ours.ceiling, score);
         }
         c.tops.join(&Tops::of(&copy.tops, ceiling, score));
-        answered = Some(Answered { word, score, ceiling: ours.ceiling, passes: copy.tops.len(), first });
+        answered = Some(Answered { word, score, ceiling: ours.ceiling, passes: copy.tops.len(), is_sure: outcome == 0, is_closed: outcome != 2, is_first });
         (0..3).for_each(|i| c.all(["scores", "next", "start"][i], &mut ours.scores[i], 0.0));
         c.all("decisions", &mut ours.decisions, 0);
-        c.answered(match outcome { 0 => pass as usize - 1, k => 2 + k as usize });
+        c.answered(match (outcome, copy.kind) {
+            (0, 1) => 3,
+            (0, _) => pass as usize - 1,
+            (3, _) => 2 + pass as usize,
+            (1, _) => 6,
+            _ => 7,
+        });
     }
     c.list("the terms", &mut terms, &before);
     c.input(|| format!("mode {mode} kind {kind}, {} terms, areas of {lengths:?}, first terms {:?}", before.len(), &before[..before.len().min(6)]));
@@ -136,14 +146,14 @@ pub fn channel(d: &mut Dice, mode: u8, kind: u8, bits: u32) -> How {
 fn by_channel(o: &Oracle, d: &mut Dice, i: u64, c: &mut Check) {
     let (mode, kind) = named(d, i);
     let how = channel(d, mode, kind, 0);
-    let terms = made(d.word(), &how).header_terms;
-    read_and_rank(o, c, d, mode, kind, terms)
+    let burst = made(d.word(), &how);
+    read_and_rank(o, c, d, mode, kind, burst.header_terms, Some(burst.word))
 }
 
-/// The same with areas as they should be, against the search in f64: the ceiling, and a word that is out in the first pass.
-fn read_and_rank(o: &Oracle, c: &mut Check, d: &mut Dice, mode: u8, kind: u8, terms: Vec<f32>) {
+/// The same with areas as they should be, against the search in f64: the ceiling, and a word that is handed out as closed.
+fn read_and_rank(o: &Oracle, c: &mut Check, d: &mut Dice, mode: u8, kind: u8, terms: Vec<f32>, sent: Option<u64>) {
     if let Some(answered) = read(o, c, d, mode, kind, terms.clone(), Header::lengths(header_bits(kind))) {
-        rivals::hold(c, mode, &terms, answered);
+        rivals::hold(c, mode, &terms, answered, sent);
     }
 }
 
@@ -214,7 +224,7 @@ fn random(o: &Oracle, d: &mut Dice, i: u64, c: &mut Check) {
             t
         }
     };
-    read_and_rank(o, c, d, mode, kind, t)
+    read_and_rank(o, c, d, mode, kind, t, None)
 }
 
 /// A good header with one to three damages: names, five lengths, terms out of range. Some are harmless, and are then read.

@@ -9,6 +9,8 @@ mod face;
 mod inputs;
 #[path = "../made.rs"]
 mod made;
+#[path = "../second.rs"]
+mod second;
 #[path = "../slip.rs"]
 mod slip;
 

@@ -7,8 +7,6 @@ use crate::small::header_bits;
 use crate::{headers, made, soft};
 use std::path::PathBuf;
 
-const OUTCOMES: [&str; 5] = ["Sure in pass 1", "Sure in pass 2", "Sure in pass 3", "Kept", "Open"];
-
 fn said(c: &Check, kinds: &[&str]) -> String {
     match (c.answers.iter().position(|&n| n > 0), c.refused.iter().position(|&n| n > 0)) {
         (Some(k), _) => kinds[k].into(),
@@ -47,7 +45,7 @@ pub fn all(o: &Oracle, folder: &str, plant: Option<(u64, usize)>) -> i32 {
         let mut ours = soft::lent(&mut d, b.mode, b.kind, b.layout, b.symbols as u8, b.window, b.bits);
         (ours.terms, ours.blanked) = (b.data_terms, b.blanked);
         soft::values(&mut s, ours);
-        println!("{name}: mode {} kind {} layout {} header {}; {} bits {}", b.mode, b.kind, b.layout, said(&h, &OUTCOMES), b.bits, said(&s, &["in bit form", "in symbol form", "of data"]));
+        println!("{name}: mode {} kind {} layout {} header {}; {} bits {}", b.mode, b.kind, b.layout, said(&h, headers::OUTCOMES), b.bits, said(&s, &["in bit form", "in symbol form", "of data"]));
         for (what, c) in [("header read", h), ("soft values", s)] {
             if let Some(why) = c.bad {
                 println!("  DIFFERS, {what}: {why}");

@@ -71,7 +71,7 @@ fn read_damaged(_: &Oracle, d: &mut Dice, i: u64, c: &mut Check) {
 }
 
 pub fn jobs() -> Vec<Job> {
-    let job = |entry, source, inputs, numbers, one| Job { entry, source, inputs, kinds: &["Sure", "Kept", "Open"], numbers, cost: 0.001, one };
+    let job = |entry, source, inputs, numbers, one| Job { entry, source, inputs, kinds: &["Sure", "Kept", "Open", "Likely"], numbers, cost: 0.001, one };
     vec![
         job("slip written", "random", 500_000, &[], written_random),
         job("slip written", "damaged", 500_000, &[4, 13], written_damaged),

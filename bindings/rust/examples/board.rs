@@ -5,6 +5,7 @@
 use ion_proved::{Board, Kind, Mode, Outcome, Refusal, SEGMENTS, Slip};
 
 const SURE: Outcome = Outcome::Sure { score: 1.0, pass: 1 };
+const LIKELY: Outcome = Outcome::Likely { score: 1.0, pass: 2 };
 const KEPT: Outcome = Outcome::Kept { score: 1.0 };
 const OPEN: Outcome = Outcome::Open { score: 1.0 };
 
@@ -14,14 +15,14 @@ fn slip(segment: u16, start: u64, outcome: Outcome) -> Slip {
 
 fn main() -> Result<(), Refusal> {
     let mut board = Board::new();
-    // segment 9 comes later once, then earlier; segment 4 is read better, then worse, at one start; segment 12 comes but once
+    // segment 9 comes later once, then earlier; segment 4 is read better twice, then worse, at one start; segment 12 comes but once
     let first = [slip(9, 48_000, SURE), slip(4, 52_000, OPEN), slip(9, 56_000, KEPT), slip(12, 50_000, OPEN)];
-    let then = [slip(9, 48_000, SURE), slip(4, 52_000, KEPT), slip(4, 52_000, OPEN)];
+    let then = [slip(9, 48_000, SURE), slip(4, 52_000, KEPT), slip(4, 52_000, LIKELY), slip(4, 52_000, KEPT), slip(4, 52_000, OPEN)];
     first.iter().chain(&then).try_for_each(|s| board.put_slip(s))?;
     for slip in board.slips() {
         println!("segment {} start {} {:?}", slip.segment, slip.start, slip.outcome);
     }
-    assert!(board.slips().eq([slip(4, 52_000, KEPT), slip(9, 56_000, KEPT), slip(12, 50_000, OPEN)]));
+    assert!(board.slips().eq([slip(4, 52_000, LIKELY), slip(9, 56_000, KEPT), slip(12, 50_000, OPEN)]));
 
     // a listed segment is judged on a full board as on any other; one more is refused, and changes nothing
     for segment in 0..SEGMENTS as u16 {

@@ -1,4 +1,4 @@
-//! Sends a header, reads it back from clean terms, reads one that hardly anything was heard of, and shows a refusal. From the repository's root:
+//! Sends a header, reads it back from clean terms, reads two that hardly anything was heard of, and shows a refusal. From the repository's root:
 //!   rt staticlib ion
 //!   cargo run --offline --manifest-path bindings/rust/Cargo.toml --target-dir target/rust --example read
 use ion_proved::{Areas, Kind, Mode, Outcome, Refusal, TERMS, header_values, read_header};
@@ -32,13 +32,20 @@ fn main() -> Result<(), Refusal> {
     assert_eq!((header.word, header.outcome), (word, Outcome::Sure { score: 8.0 * n as f32, pass: 1 }));
     assert_eq!(header.ceiling, 8.0 * n as f32);
 
-    // ten values in as many slots and nothing else: out in the second pass, below the ceiling, so that it may be beaten
+    // ten values in as many slots and nothing else: out in the second pass, below the ceiling, so that it may be beaten: Likely
     let mut few = vec![0.0; 48 * TERMS];
     let values = [(5, 1), (19, 10), (16, 10), (10, 22), (41, 10), (21, 20), (26, 4), (3, 10), (34, 30), (17, 5)];
     values.into_iter().for_each(|(s, value)| few[place(s, value)] = 1.0);
     let header = read_header(mode, Kind::HeaderOnly, &few, &mut areas)?;
     println!("of ten values read {:012x}, {:?}, ceiling {}: no closed word scores above that", header.word, header.outcome, header.ceiling);
-    assert_eq!((header.word, header.outcome, header.ceiling), (0x9D49_8A10_6EBE, Outcome::Sure { score: 9.0, pass: 2 }, 10.0));
+    assert_eq!((header.word, header.outcome, header.ceiling), (0x9D49_8A10_6EBE, Outcome::Likely { score: 9.0, pass: 2 }, 10.0));
+
+    // one value of one slot: no pass closes, but a candidate reaches the ceiling, so that no closed word beats it: Sure, in the last pass run
+    let mut one = vec![0.0; 48 * TERMS];
+    one[place(14, 16)] = 1.0;
+    let header = read_header(mode, Kind::HeaderOnly, &one, &mut areas)?;
+    println!("of one value read {:012x}, {:?}, ceiling {}", header.word, header.outcome, header.ceiling);
+    assert_eq!((header.word, header.outcome, header.ceiling), (0xC0_0000_0000, Outcome::Sure { score: 1.0, pass: 3 }, 1.0));
 
     terms[7] = 1e7;
     let refused = read_header(mode, kind, &terms, &mut areas).unwrap_err();

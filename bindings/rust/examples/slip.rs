@@ -15,10 +15,13 @@ fn main() -> Result<(), Refusal> {
     println!("read back: {:?}", Slip::from_bytes(&bytes)?);
     assert_eq!(Slip::from_bytes(&bytes), Ok(slip));
 
-    // Sure in pass 4, which no slip holds
-    let mut unlawful = slip;
-    unlawful.outcome = Outcome::Sure { score: 0.0, pass: 4 };
-    assert_eq!(unlawful.to_bytes(), Err(Refusal::Slip));
+    // Sure in pass 4 and Likely in pass 1, which no slip holds; Likely in pass 2 is byte 3 with its pass
+    for outcome in [Outcome::Sure { score: 0.0, pass: 4 }, Outcome::Likely { score: 0.0, pass: 1 }] {
+        assert_eq!(Slip { outcome, ..slip }.to_bytes(), Err(Refusal::Slip));
+    }
+    let likely = Slip { outcome: Outcome::Likely { score: 0.0, pass: 2 }, ..slip };
+    assert_eq!(likely.to_bytes()?[22..24], [3, 2]);
+    assert_eq!(Slip::from_bytes(&likely.to_bytes()?), Ok(likely));
     // a byte too few; and every byte damaged in one bit: what is still a slip is another one, written as just these bytes
     assert_eq!(Slip::from_bytes(&bytes[..43]), Err(Refusal::Slip));
     let mut others = 0;

@@ -50,16 +50,16 @@ mod sys {
             start: *mut u64, segment: *mut u16,
         ) -> u32;
         pub fn ion_put_slip(board: *mut u8, board_len: usize, count: *mut u32, slip: *const u8, slip_len: usize) -> u32;
-        pub fn ion_version_106() -> u32;
+        pub fn ion_version_107() -> u32;
     }
 }
 
 /// The number of the last change request that is in; 0 is the base. The library has it in a symbol's name, so a library of another
 /// version does not link.
-pub const VERSION: u32 = 106;
+pub const VERSION: u32 = 107;
 
 #[used]
-static VERSION_LINKED: unsafe extern "C" fn() -> u32 = sys::ion_version_106;
+static VERSION_LINKED: unsafe extern "C" fn() -> u32 = sys::ion_version_107;
 
 /// Terms of a symbol: five rows of 52.
 pub const TERMS: usize = 260;
@@ -260,40 +260,49 @@ impl fmt::Display for Refusal {
 
 impl std::error::Error for Refusal {}
 
-/// How a header's word was found, and what is proved of it. A good CRC is asked beside every outcome.
+/// How sure a header's word is, and what is proved of it; from the best reading to none. A good CRC is asked beside every outcome.
 ///
-/// Whole terms below are whole numbers from -800 to 800.
+/// Whole terms below are whole numbers from -800 to 800, and 2^a bounds any other terms, a from 0 to 20. Of Sure, Likely and Kept, which are
+/// closed words, the score is exactly what the word's symbols earn for whole terms, and for terms within ±2^a off from that by at most
+/// 2^(a-9).
 #[derive(Clone, Copy, Debug, PartialEq)]
 pub enum Outcome {
-    /// Out by closing in this pass, 1 to 3.
+    /// Out by closing, or the best candidate after three passes, with a score at or above the ceiling ([`Header`]). The pass, 1 to 3, is the
+    /// last one run.
     ///
-    /// In pass 1, for any terms that are not refused: the score is the word's own, added in f32 as the receiver adds it, and no
-    /// other word has a greater one. For terms within ±2^a, a from 0 to 20, no word's exact score is above the word's by more than
-    /// 2^(a-8): with terms within ±64 no word beats it by more than a quarter of a point. For whole terms none beats it at all.
+    /// For whole terms no closed word scores more, whichever pass gave it. For terms within ±2^a no closed word's exact score is above
+    /// the word's by more than 2^(a-8): with terms within ±64 none beats it by more than a quarter of a point.
     ///
-    /// In pass 2 or 3 it need not be the best word. For whole terms its score is exactly what its symbols earn, in any pass.
+    /// Pass 1 says that it is out by closing there, and every such word is Sure. Then no other word, closed or not, does either; and for
+    /// any terms that are not refused the score is the word's own, added in f32 as the receiver adds it, and no other word has a greater
+    /// one.
     Sure { score: f32, pass: u8 },
-    /// The best of the closed words that three passes met on the way: a guess with a score. For whole terms the score is exactly
-    /// what its symbols earn.
+    /// Out by closing in this pass, 2 or 3, with a score below the ceiling: another closed word may have a greater one, but none need.
+    Likely { score: f32, pass: u8 },
+    /// The best of the closed words that three passes met on the way, with a score below the ceiling: a guess. Another closed word may have
+    /// a greater one, but none need.
     Kept { score: f32 },
     /// No closed word was met: the word is no header's.
     Open { score: f32 },
 }
 
 impl Outcome {
-    /// As the library's numbers name it: 0 Sure with its pass, 1 Kept, 2 Open.
+    /// As the library's numbers name it: 0 Sure and 3 Likely with their pass, 1 Kept, 2 Open. It has no other.
     fn named(outcome: u8, pass: u8, score: f32) -> Outcome {
         match outcome {
             0 => Outcome::Sure { score, pass },
             1 => Outcome::Kept { score },
-            _ => Outcome::Open { score },
+            2 => Outcome::Open { score },
+            3 => Outcome::Likely { score, pass },
+            other => panic!("the library names no outcome {other}"),
         }
     }
 
-    /// The same numbers: the outcome's, the pass of a Sure and else 0, the score.
+    /// The same numbers: the outcome's, the pass of a Sure or a Likely and else 0, the score.
     fn numbers(self) -> (u8, u8, f32) {
         match self {
             Outcome::Sure { score, pass } => (0, pass, score),
+            Outcome::Likely { score, pass } => (3, pass, score),
             Outcome::Kept { score } => (1, 0, score),
             Outcome::Open { score } => (2, 0, score),
         }
@@ -306,14 +315,15 @@ impl Outcome {
 /// For each pass that the search ran (at most three; one that closes ends it) take from each of the 16,384 states its score at the end less
 /// the same state's score at the start of the pass, in f32, and of these the greatest; the ceiling is the least of them over the passes.
 ///
-/// Proved: for whole terms from -800 to 800 no closed word of that length scores above it, whether one pass was run, two or three, so a Sure
-/// or a Kept with the ceiling as its score is beaten by no closed word. Of a word that is out by closing in pass 1 it is the score, bit for
-/// bit, for any terms that are not refused. For terms within ±2^a, a from 0 to 20, no closed word's exact score is above it by more than
-/// 2^(a-8).
+/// By it the outcome is given: a closed word with a score at or above it is Sure, any other Likely or Kept. The two are compared as f32s.
+///
+/// Proved: for whole terms from -800 to 800 no closed word of that length scores above it, whether one pass was run, two or three. Of a word
+/// that is out by closing in pass 1 it is the score, bit for bit, for any terms that are not refused. For terms within ±2^a, a from 0 to 20,
+/// no closed word's exact score is above it by more than 2^(a-9).
 ///
 /// It is a bound and no more: it need not be reached by any word, so a score below it does not say that there is a better word. An Open
-/// word is not closed, and its score may lie above the ceiling; for terms that are not whole, so may the score of a Kept and of a Sure in
-/// pass 2 or 3, by rounding.
+/// word is not closed, and its score may lie above the ceiling. For terms that are not whole a word may lie below it, or above it, by
+/// rounding alone.
 #[derive(Clone, Copy, Debug, PartialEq)]
 pub struct Header {
     pub word: u64,
@@ -464,7 +474,8 @@ pub fn read_header(mode: Mode, kind: Kind, terms: &[f32], areas: &mut Areas) -> 
 ///
 /// Proved: [`Slip::from_bytes`] reads a string of bytes exactly where some slip is written as it, and as that slip, so no two strings are
 /// one slip; and every answer of [`read_header`] can be written, with any start and segment. A score of -0.0 has bytes of its own, though
-/// it equals 0.0 as a number.
+/// it equals 0.0 as a number. A slip of before version 107, which has no Likely, is written and read as it was; but Sure in it has that
+/// version's meaning.
 ///
 /// ```
 /// use ion_proved::{Kind, Mode, Outcome, Refusal, SLIP, Slip};
@@ -479,6 +490,10 @@ pub fn read_header(mode: Mode, kind: Kind, terms: &[f32], areas: &mut Areas) -> 
 /// assert_eq!(Slip { word: 1 << 48, ..slip }.to_bytes(), Err(Refusal::Slip));
 /// let outcome = Outcome::Open { score: f32::INFINITY };
 /// assert_eq!(Slip { outcome, ..slip }.to_bytes(), Err(Refusal::Slip));
+/// // no word is Likely in pass 1
+/// let outcome = |pass| Outcome::Likely { score: 1.0, pass };
+/// assert_eq!(Slip { outcome: outcome(1), ..slip }.to_bytes(), Err(Refusal::Slip));
+/// assert_eq!(Slip { outcome: outcome(3), ..slip }.to_bytes()?[22..24], [3, 3]);
 /// # Ok::<(), Refusal>(())
 /// ```
 #[derive(Clone, Copy, Debug, PartialEq)]
@@ -492,7 +507,8 @@ pub struct Slip {
 }
 
 impl Slip {
-    /// Its bytes; [`Refusal::Slip`] where the word has bits above its own, the score is not finite, or a Sure's pass is not from 1 to 3.
+    /// Its bytes; [`Refusal::Slip`] where the word has bits above its own, the score is not finite, a Sure's pass is not from 1 to 3, or a
+    /// Likely's not 2 or 3.
     pub fn to_bytes(&self) -> Result<[u8; SLIP], Refusal> {
         let (outcome, pass, score) = self.outcome.numbers();
         let mut bytes = [0; SLIP];
@@ -551,8 +567,8 @@ pub fn put_slip(board: &mut [u8], count: &mut u32, slip: &[u8]) -> Result<(), Re
 /// What the planner's screen shows: one slip a segment, segments rising, at most [`SEGMENTS`].
 ///
 /// A slip for a listed segment takes the listed one's place where its start is later, or where both starts are equal and its reading is
-/// better: Sure is better than Kept, and Kept than Open, whatever the pass and the score. Else the listed one remains. A slip for another
-/// segment is listed in order.
+/// better: Sure is better than Likely, Likely than Kept, and Kept than Open, whatever the pass and the score. Else the listed one remains. A
+/// slip for another segment is listed in order.
 ///
 /// Proved: after any series of puts, those refused set aside, each segment shows the slip that these rules leave of its own slips in order of
 /// arrival. A segment once listed stays listed, so of one segment's slips all are accepted or none: the first 512 different segments that
@@ -561,15 +577,19 @@ pub fn put_slip(board: &mut [u8], count: &mut u32, slip: &[u8]) -> Result<(), Re
 /// ```
 /// use ion_proved::{Board, Kind, Mode, Outcome, Refusal, SEGMENTS, Slip};
 /// let slip = |segment, start, outcome| Slip { mode: Mode::R0, kind: Kind::Cue, word: 5, outcome, start, segment };
-/// let (sure, kept) = (Outcome::Sure { score: 1.0, pass: 3 }, Outcome::Kept { score: 9.0 });
+/// let (sure, likely) = (Outcome::Sure { score: 1.0, pass: 3 }, Outcome::Likely { score: 5.0, pass: 2 });
+/// let kept = Outcome::Kept { score: 9.0 };
 /// let mut board = Board::new();
 /// board.put_slip(&slip(7, 48_000, kept))?;
 /// board.put_slip(&slip(3, 50_000, sure))?;
 /// assert_eq!(board.slips().map(|s| s.segment).collect::<Vec<_>>(), [3, 7]);
 ///
 /// // a better reading of the same start replaces, a worse one does not; a later start does, whatever its reading
-/// board.put_slip(&slip(7, 48_000, sure))?;
+/// board.put_slip(&slip(7, 48_000, likely))?;
 /// board.put_slip(&slip(7, 48_000, kept))?;
+/// assert_eq!(board.get(7), Some(slip(7, 48_000, likely)));
+/// board.put_slip(&slip(7, 48_000, sure))?;
+/// board.put_slip(&slip(7, 48_000, likely))?;
 /// assert_eq!(board.get(7), Some(slip(7, 48_000, sure)));
 /// board.put_slip(&slip(7, 48_001, kept))?;
 /// board.put_slip(&slip(7, 48_000, sure))?;
