@@ -126,8 +126,8 @@ uint32_t ion_interleave_sym(const uint8_t *symbols, size_t symbols_len, uint8_t 
  * - Sure, whole terms from -800 to 800: no closed word of n bits scores more, whichever pass gave it.
  * - Sure, terms within +-2^a (a from 0 to 20): no closed word's exact score is above the word's by more than 2^(a-8), whichever pass gave
  *   it: with terms within +-64 no closed word beats it by more than a quarter of a point.
- * - Sure in pass 1, besides: no other word, closed or not, does either. And for any accepted terms the score is the word's own, added in
- *   f32 as the receiver adds it, it is the ceiling, bit for bit, and no other word, closed or not, has a greater one.
+ * - Sure in pass 1, besides: both hold against every other word, closed or not. And for any accepted terms the score is the word's own,
+ *   added in f32 as the receiver adds it, it is the ceiling, bit for bit, and no other word, closed or not, has a greater one.
  * - Sure, Likely and Kept: a closed word. For whole terms from -800 to 800 its score is exactly what its sent symbols earn, for terms within
  *   +-2^a off from that by at most 2^(a-9).
  * - Likely and Kept: nothing more. Another closed word may have a greater score, but none need.
@@ -150,7 +150,8 @@ uint32_t ion_read_header(uint8_t mode, uint8_t kind, const float *terms, size_t 
  * ION_LIKELY with 2 or 3, ION_KEPT or ION_OPEN with 0; a finite score (-0.0 is one, and has its own bytes); any start and segment. It has
  * neither the layout nor the ceiling, nor a verdict on the word's CRC, which ion_crc tells in the layout in use.
  * Proved: every answer of ion_read_header is such, with any start and segment. ion_read_slip gives back what was written, bit for bit. A slip
- * of before version 107, which has no Likely, is written and read as it was; but Sure in it has that version's meaning.
+ * from before version 107 is written and read as it was; but there Sure says only that the word was out by closing: with pass 2 or 3
+ * another one may beat it.
  * Refused: 4 (slip_len is not 44), 13 (values that no slip holds, an outcome above 3 or a pass that does not go with it among them). */
 uint32_t ion_write_slip(uint8_t mode, uint8_t kind, uint64_t word, uint8_t outcome, uint8_t pass, float score, uint64_t start,
                         uint16_t segment, uint8_t *slip, size_t slip_len);

@@ -36,9 +36,9 @@ fn lent() -> Header {
     Header { scores: [vec![0.0; a], vec![0.0; b], vec![0.0; c]], decisions: vec![0; d], word: 0, outcome: 0, pass: 0, score: 0.0, ceiling: 0.0 }
 }
 
-/// All that a read answers and leaves, but the areas.
-fn answer(h: &Header) -> (u64, u8, u8, u32, u32) {
-    (h.word, h.outcome, h.pass, h.score.to_bits(), h.ceiling.to_bits())
+/// All that a read answers and leaves, but the areas; the outcome only where both sides give it by one rule.
+fn answer(h: &Header, one_rule: bool) -> (u64, Option<(u8, u8)>, u32, u32) {
+    (h.word, one_rule.then_some((h.outcome, h.pass)), h.score.to_bits(), h.ceiling.to_bits())
 }
 
 fn zeros(h: &Header) -> bool {
@@ -48,7 +48,7 @@ fn zeros(h: &Header) -> bool {
 const ORDERS: [[usize; 3]; 6] = [[0, 1, 2], [1, 0, 2], [2, 0, 1], [2, 1, 0], [0, 2, 1], [1, 2, 0]];
 
 /// Headers of 64 symbols in R0, of one style: one warm-up that is not counted, then n.
-fn headers(n: u64, name: &str, style: usize) {
+fn headers(n: u64, one_rule: bool, name: &str, style: usize) {
     let (c, mut ours, mut theirs) = (code(), lent(), lent());
     let mut times: [Vec<f64>; 3] = Default::default();
     for i in 0..=n {
@@ -67,7 +67,7 @@ fn headers(n: u64, name: &str, style: usize) {
             };
         }
         let (bits, score) = told.expect("every side has its turn");
-        assert!(answer(&ours) == answer(&theirs) && score.to_bits() == ours.score.to_bits() && bits == bits_of(ours.word, 64), "{name}, header {i}");
+        assert!(answer(&ours, one_rule) == answer(&theirs, one_rule) && score.to_bits() == ours.score.to_bits() && bits == bits_of(ours.word, 64), "{name}, header {i}");
         assert!(zeros(&ours) && zeros(&theirs), "{name}, header {i}: an area is left");
         if i > 0 {
             times.iter_mut().zip(ms).for_each(|(list, ms)| list.push(ms));
@@ -86,9 +86,12 @@ fn main() {
         eprintln!("against: the headers are no number (oracle/against.sh --help)");
         std::process::exit(2)
     });
-    println!("{n} headers of each style, all answers alike, seconds of CPU in all; this / other by header: median (least to greatest); both / the Rust");
+    // since #107 the outcome is given by score and ceiling
+    let one_rule = std::env::args().nth(2).is_none_or(|rule| rule != "another-rule");
+    let alike = if one_rule { "all answers alike" } else { "word, score and ceiling alike, outcomes by another rule" };
+    println!("{n} headers of each style, {alike}, seconds of CPU in all; this / other by header: median (least to greatest); both / the Rust");
     println!("             other      this  the Rust  this/other   by header                other/ this/");
-    headers(n, "clean", 0);
-    headers(n, "noisy", 1);
-    headers(n, "random", 2);
+    headers(n, one_rule, "clean", 0);
+    headers(n, one_rule, "noisy", 1);
+    headers(n, one_rule, "random", 2);
 }

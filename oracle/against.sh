@@ -3,7 +3,8 @@
 # usage: oracle/against.sh CHECKOUT [HEADERS]
 #        (from anywhere; needs rustc, objcopy, ld and ../shared; writes only below target/, and target/ of the other checkout)
 # CHECKOUT: a clone of the repository at another commit, with the same C function `ion_read_header`: of version 106 or later, since which it
-# tells the ceiling. HEADERS: 1,000 of each style unless given, which takes some minutes.
+# tells the ceiling. Outcome and pass are compared where that checkout has version 107 or later, since which the ceiling gives them.
+# HEADERS: 1,000 of each style unless given, which takes some minutes.
 set -eu
 . "$(dirname "$0")/common.sh"
 [ -f "${1:-}/crates.txt" ] || { echo "against.sh: the other checkout is not there (oracle/against.sh --help)" >&2; exit 2; }
@@ -23,5 +24,6 @@ rm -f "$out/against/libother.a" "$out/against/against"
 ar rcs "$out/against/libother.a" "$out/against/other.o"
 
 rust_program against/against oracle/against.rs -L target/staticlib -l static=ion -L "$out/against" -l static=other
-shift
-exec "$out/against/against" "$@"
+rule=another-rule
+if grep -q ION_LIKELY "$other/include/ion.h"; then rule=one-rule; fi
+exec "$out/against/against" "${2:-1000}" $rule

@@ -1,6 +1,7 @@
-// How often each outcome comes on bursts made by the channel, how often its word is the one sent, and how often rounding alone has made it. Every header
-// is read by ours, through the C function, and by the second search of second.rs at f32, which must say the same. One that is not out in the first pass is
-// searched once more over whole numbers, without rounding, and the outcome that document 02's table gives there (#107) is set beside ours.
+// How often each outcome comes on bursts made by the channel, how often its word is the one sent, and how often rounding alone has made it. Every
+// header is read by ours, through the C function, and by the second search of second.rs at f32, which must say the same. One that is not out in the
+// first pass is searched once more over whole numbers, without rounding, and the outcome that document 02's table gives there (#107) is set
+// beside ours.
 // Built and run by outcomes.sh.
 #[allow(dead_code)]
 mod face;
@@ -52,10 +53,11 @@ fn named((outcome, pass, candidate): Reading) -> String {
 struct Tally {
     /// By channel and level, and by reading: how many, and how many of them with the word sent.
     met: BTreeMap<(usize, usize), BTreeMap<Reading, [u64; 2]>>,
-    /// Of those not out in the first pass, by our reading and by that without rounding, and whether both have one word: how many, and by how many units in
-    /// the last place the score is off the ceiling at most.
+    /// Of those not out in the first pass, by our reading and by that without rounding, and whether both have one word: how many, and by how many
+    /// units in the last place the score is off the ceiling at most.
     beside: BTreeMap<(Reading, Reading, bool), (u64, u64)>,
-    /// By outcome: words that are not the one sent and have a good CRC; and, of those not out in the first pass, words that the one sent beats in exact scores.
+    /// By outcome: words that are not the one sent and have a good CRC; and, of those not out in the first pass, words that the one sent beats in
+    /// exact scores.
     passed: BTreeMap<Outcome, u64>,
     beaten: BTreeMap<Outcome, u64>,
     /// By the least a with all terms within ±2^a.

@@ -5,7 +5,7 @@ use super::exact::{self, Exact};
 use super::inputs::{self, Dice, STYLES, rows, sent_places, styled};
 use super::face::Header;
 use super::{KINDS, MODES, REFUSED, Section, told};
-use ion::fec::conv::ConvCode;
+use ion::fec::conv::{ConvCode, Told};
 use ion::phy_mfsk::hook::{Fmt, Kind, air, code, decode_terms, decode_terms_told};
 
 /// The outcomes by their numbers.
@@ -257,32 +257,37 @@ fn states(wrong: &mut bool) {
     s.end(wrong);
 }
 
-/// Headers that tell the least top from the last one. Of whole terms tops never rise from a pass to the next, so that no ceiling of them does; by
-/// rounding they can. Of the styles SEARCHED those are taken of which the copy says so, as many as FOUND of each.
-fn tellers(wrong: &mut bool) {
-    const SEARCHED: [usize; 3] = [2, 6, 7];
+/// Headers that tell one rule from another and are few: of each of these styles the first ones that are as wanted by the copy, FOUND of them.
+fn looked_for(wrong: &mut bool, name: &'static str, styles: &[usize], wanted: fn(&Told, f32) -> bool) {
     const FOUND: u64 = 3;
     let c = code();
-    let mut s = Section::new("header read, headers whose ceiling is not the last top");
+    let mut s = Section::new(name);
     let (mut met, mut looked) = (Met::default(), 0);
-    for style in SEARCHED {
-        let before = met.not_last;
+    for &style in styles {
+        let before = met.count();
         for i in 0..1000u64 {
             let (m, k, seed) = (i as usize % 2, [0, 2][i as usize / 2 % 2], 1 << 50 | (style as u64) << 40 | i << 20);
             let t = styled(style, MODES[m], KINDS[k], &mut Dice(seed));
-            let copy = decode_terms_told(&c, MODES[m], KINDS[k], &rows(&t)).2;
+            let (_, score, copy) = decode_terms_told(&c, MODES[m], KINDS[k], &rows(&t));
             looked += 1;
-            if copy.ceiling() != copy.tops[copy.tops.len() - 1] {
+            if wanted(&copy, score) {
                 header(&mut s, &c, m, k, &t, Dice(seed).word(), &mut met, &|| format!("style {style} seed {seed} tops {:?}", copy.tops));
             }
-            if met.not_last == before + FOUND {
+            if met.count() == before + FOUND {
                 break;
             }
         }
-        s.pair(met.not_last - before, FOUND, || format!("such headers of style {style}"));
+        s.pair(met.count() - before, FOUND, || format!("such headers of style {style}"));
     }
-    print!("of {looked} looked at {}; {}; ", met.count(), met.said());
+    print!("of {looked} looked at {}, {}; {}; ", met.count(), met.outcomes(), met.said());
     s.end(wrong);
+}
+
+/// The least top and the last one: of whole terms tops never rise from a pass to the next, so that no ceiling of them tells; by rounding they can. And
+/// a word that is not below the ceiling from one that is at it: by rounding a late one can lie above.
+fn tellers(wrong: &mut bool) {
+    looked_for(wrong, "header read, headers whose ceiling is not the last top", &[2, 6, 7], |copy, _| copy.ceiling() != copy.tops[copy.tops.len() - 1]);
+    looked_for(wrong, "header read, headers whose closed word is above the ceiling", &[1], |copy, score| copy.kind != 2 && score > copy.ceiling());
 }
 
 /// Terms close to one number near 2^a or -2^a, a from 0 to 20: of such sums most is lost, and words lie above the ceiling by rounding.

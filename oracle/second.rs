@@ -1,5 +1,5 @@
 // A second search for a header's word, over any kind of number: at f32 it must be the receiver's own, at whole numbers it rounds nothing. Written
-// from documents 01 and 02 alone, it shares no line with either receiver.
+// from documents 01 and 02 alone, it shares no line with either receiver but the Rust's `mix64`.
 #![allow(dead_code)] // not every program asks for all of it
 use ion::phy_mfsk::hook::air;
 use std::ops::{Add, Sub};

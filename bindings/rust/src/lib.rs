@@ -262,9 +262,9 @@ impl std::error::Error for Refusal {}
 
 /// How sure a header's word is, and what is proved of it; from the best reading to none. A good CRC is asked beside every outcome.
 ///
-/// Whole terms below are whole numbers from -800 to 800, and 2^a bounds any other terms, a from 0 to 20. Of Sure, Likely and Kept, which are
-/// closed words, the score is exactly what the word's symbols earn for whole terms, and for terms within ±2^a off from that by at most
-/// 2^(a-9).
+/// Whole terms below are whole numbers from -800 to 800; terms within ±2^a, a from 0 to 20, are any others that are not refused. Of Sure,
+/// Likely and Kept, which are closed words, the score is exactly what the word's symbols earn for whole terms, and for terms within ±2^a off
+/// from that by at most 2^(a-9).
 #[derive(Clone, Copy, Debug, PartialEq)]
 pub enum Outcome {
     /// Out by closing, or the best candidate after three passes, with a score at or above the ceiling ([`Header`]). The pass, 1 to 3, is the
@@ -273,9 +273,9 @@ pub enum Outcome {
     /// For whole terms no closed word scores more, whichever pass gave it. For terms within ±2^a no closed word's exact score is above
     /// the word's by more than 2^(a-8): with terms within ±64 none beats it by more than a quarter of a point.
     ///
-    /// Pass 1 says that it is out by closing there, and every such word is Sure. Then no other word, closed or not, does either; and for
-    /// any terms that are not refused the score is the word's own, added in f32 as the receiver adds it, and no other word has a greater
-    /// one.
+    /// Pass 1 says that it is out by closing there, and every such word is Sure. Then both hold against every other word, closed or not; and
+    /// for any terms that are not refused the score is the word's own, added in f32 as the receiver adds it, and no other word has a
+    /// greater one.
     Sure { score: f32, pass: u8 },
     /// Out by closing in this pass, 2 or 3, with a score below the ceiling: another closed word may have a greater one, but none need.
     Likely { score: f32, pass: u8 },
@@ -315,7 +315,8 @@ impl Outcome {
 /// For each pass that the search ran (at most three; one that closes ends it) take from each of the 16,384 states its score at the end less
 /// the same state's score at the start of the pass, in f32, and of these the greatest; the ceiling is the least of them over the passes.
 ///
-/// By it the outcome is given: a closed word with a score at or above it is Sure, any other Likely or Kept. The two are compared as f32s.
+/// By it the outcome is given: a word out by closing, or the best candidate, is Sure with a score at or above it, and below it Likely or Kept;
+/// Open is given without it. The two are compared as f32s.
 ///
 /// Proved: for whole terms from -800 to 800 no closed word of that length scores above it, whether one pass was run, two or three. Of a word
 /// that is out by closing in pass 1 it is the score, bit for bit, for any terms that are not refused. For terms within ±2^a, a from 0 to 20,
@@ -474,8 +475,8 @@ pub fn read_header(mode: Mode, kind: Kind, terms: &[f32], areas: &mut Areas) -> 
 ///
 /// Proved: [`Slip::from_bytes`] reads a string of bytes exactly where some slip is written as it, and as that slip, so no two strings are
 /// one slip; and every answer of [`read_header`] can be written, with any start and segment. A score of -0.0 has bytes of its own, though
-/// it equals 0.0 as a number. A slip of before version 107, which has no Likely, is written and read as it was; but Sure in it has that
-/// version's meaning.
+/// it equals 0.0 as a number. A slip from before version 107 is written and read as it was; but there Sure says only that the word was out
+/// by closing: with pass 2 or 3 another one may beat it.
 ///
 /// ```
 /// use ion_proved::{Kind, Mode, Outcome, Refusal, SLIP, Slip};

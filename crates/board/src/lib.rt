@@ -1,4 +1,4 @@
-// The segment board (document 02, #105): one slip a segment, segments rising, over 512 lent places of 44 bytes with a count. What a put
+// The segment board (document 02, #105, #107): one slip a segment, segments rising, over 512 lent places of 44 bytes with a count. What a put
 // leaves and refuses is in specs/Putting.antt, what a board shows after any series of slips in specs/Series.antt (`After`, proved in
 // proofs/Series.antt, under any rule).
 ghost use Prim.Native.Nat.{suc, _-_, _*_, _^_, _≤_, _<_};

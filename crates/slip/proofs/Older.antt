@@ -1,30 +1,20 @@
 -- OLDER SLIPS read and are written as before (document 02, #107): what #103 allowed is allowed, and nothing else is now but where the outcome byte
 -- is 3. Assumes nothing.
 use Prim.Native.Nat.{ℕ}
-use mathlib.Core.Bool.{Bool, true, false, not, true≢false, _&&_, and-eq-true-iff}
+use mathlib.Core.Bool.{Bool, true, not, true≢false, and-eq-true-iff}
 use mathlib.Core.List.{List}
 use mathlib.Core.Path.{_≡_, refl, sym, ap, subst, _∙_}
 use borrow.Author.Tests.{ne-eqb}
-use lib.Dec.{eqb, leb, ltb}
-use lib.Ieee.{binary32, fits}
-use lib.Ieee.Scale.{finite}
+use lib.Dec.{eqb, ltb}
 use lib.ListN.{length, getD}
 use Rattle.util.specs.Choose.{choose}
 use Rattle.util.specs.Refusal.{Outcome, refused, accepted}
-use Rattle.frame.specs.Format.{named, headerBits}
+use Rattle.frame.specs.Format.{named}
 use Rattle.slip.specs.Spelling.{spell}
-use Rattle.slip.specs.Lawful.{passGoes, lawfulBy, lawful}
+use Rattle.slip.specs.Lawful.{passGoes, lawful, passWent, older}
 use Rattle.slip.specs.Slips.{writing, written, taken, reading, ReadsBy, Reads}
 use Rattle.slip.specs.declared.Fields.{Fields}
 use Rattle.slip.proofs.Slips.{taken-back, read-spelt, written-lawful, reads}
-
--- #103's rule: 0 Sure with its pass, 1 to 3; 1 Kept and 2 Open with 0
-unfoldable pub passWent : ℕ → ℕ → Bool
-passWent outcome pass = choose (eqb outcome 0) (leb 1 pass && leb pass 3) (leb outcome 2 && eqb pass 0)
-
--- the values that its slips held
-abbrev pub older : Fields → Bool
-older f = lawfulBy passWent f
 
 pub lawful-as-before : (f : Fields) → (f .outcome ≡ 3 → ⊥) → lawful f ≡ older f
 unfolding lawful passGoes passWent

@@ -25,3 +25,12 @@ lawfulBy goes f =
 
 unfoldable pub lawful : Fields → Bool
 lawful f = lawfulBy passGoes f
+
+-- ---- the slips of before #107
+
+-- #103's own rule: 0 Sure with its pass, 1 to 3; 1 Kept and 2 Open with 0
+unfoldable pub passWent : ℕ → ℕ → Bool
+passWent outcome pass = choose (eqb outcome 0) (leb 1 pass && leb pass 3) (leb outcome 2 && eqb pass 0)
+
+abbrev pub older : Fields → Bool
+older f = lawfulBy passWent f

@@ -1,4 +1,4 @@
-// Burst slips (document 02, #103): a header as 44 bytes of tagged fields, with a single spelling. The writer and the reader;
+// Burst slips (document 02, #103, #107): a header as 44 bytes of tagged fields, with a single spelling. The writer and the reader;
 // what a slip's values are and how they are spelt is in specs/, that no two strings are one slip in proofs/Slips.antt.
 ghost use Prim.Native.Nat.{_+_, _*_, _≤_, _<_, _^_};
 ghost use mathlib.Core.Bool.{true, _&&_};

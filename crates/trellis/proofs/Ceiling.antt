@@ -1,6 +1,6 @@
 -- THE CEILING (document 02, #106). It is the top of one of the passes, so what holds of every pass's top holds of it. Out by closing in the first
--- pass it is the score, which is then not below it. Where sums can be taken back, no closed word scores above any pass's top: its walk ends in the state in which it
--- starts, so that state's gain is at least its score, whatever the start scores. Assumes nothing.
+-- pass it is the score, which is then not below it. Where sums can be taken back, no closed word scores above any pass's top: its walk ends in the
+-- state in which it starts, so that state's gain is at least its score, whatever the start scores. Assumes nothing.
 use Prim.Native.Nat.{ℕ, zero, suc, _%_, _^_, _≤_, _<_}
 use mathlib.Core.Path.{_≡_, refl, sym, ap, _∙_, subst, subst₂}
 use mathlib.Core.Bool.{Bool, true, false}

@@ -1,6 +1,7 @@
 -- Laws of this crate's definitions, for its own proofs and its callers'. A pass from any start scores: Best. What a search hands out: Handed, Ceiling.
--- The simulation of one search by another: Alike, and from terms on: Metric. f32 for the whole numbers: Exact. What an outcome says: Outcomes. Demand 3: Demand,
--- Sent. All accepted terms: Finite, AnyTerms, Answered, Graded, Rounding, Apart, NearCeiling, NearExact, Scaled. That no premise is empty: Runs, Guards, Clean.
+-- The simulation of one search by another: Alike, and from terms on: Metric. f32 for the whole numbers: Exact. What an outcome says: Outcomes.
+-- Demand 3: Demand, Sent. All accepted terms: Finite, AnyTerms, Answered, Graded, Rounding, Apart, NearCeiling, NearExact, Scaled. That no premise
+-- is empty: Runs, Guards, Clean.
 pub mod Paths
 pub mod Best
 pub mod Handed

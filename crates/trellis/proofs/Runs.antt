@@ -7,8 +7,10 @@ use lib.ListN.{getD}
 use mathlib.Core.Bool.{true}
 use lib.IntN.{ℤ, pos}
 use lib.Ieee.{Float, binary32, ofInt, add, sub, lt}
+use Rattle.ieee.specs.Whole.{run}
+use Rattle.conv.specs.Encoder.{state, made}
 use Rattle.trellis.specs.Scale.{Scale, highest}
-use Rattle.trellis.specs.Trellis.{Trellis}
+use Rattle.trellis.specs.Trellis.{Trellis, closedScore}
 use Rattle.trellis.specs.Search.{closing, candidate, unclosed, topOf, traceStart, traceWord, beats, scores}
 use Rattle.trellis.specs.Search.{decision, candidates, begin, closesIn, last, ceilingTo, ceiling, best, settled, search}
 use Rattle.trellis.specs.Answer.{Answer, Sure, Likely, Kept, Open, answerOf}
@@ -90,7 +92,19 @@ open-at-ceiling : answered (0 ∷ 0 ∷ 0 ∷ 1 ∷ []) (0 ∷ 1 ∷ []) ≡ rec
 unfolding answered tiny search settled best last closesIn begin candidates beats traceStart traceWord highest scores decision ceiling ceilingTo
 open-at-ceiling = refl
 
--- on 4 states, tops of 3, 3 and 2: the score of an unclosed word may lie above the ceiling
+-- on 4 states, the request's own story: out in the second pass with score 1, where the closed word 1 scores 2. It is Likely
+story : Trellis ℤ
+story = small (0 ∷ 0 ∷ 0 ∷ 0 ∷ 0 ∷ 0 ∷ 2 ∷ []) (0 ∷ 0 ∷ 2 ∷ 0 ∷ 0 ∷ 1 ∷ [])
+
+beaten : answerOf whole (search story) (ceiling story) ≡ record { word = 2; outcome = Likely (pos 1) 2; ceiling = pos 3 }
+unfolding story small search settled best last closesIn begin candidates beats traceStart traceWord highest scores decision ceiling ceilingTo
+beaten = refl
+
+by-another : closedScore story 2 1 ≡ pos 2
+unfolding story small run made state
+by-another = refl
+
+-- tops of 3, 3 and 2: the score of an unclosed word may lie above the ceiling
 open-above : search (small (0 ∷ 0 ∷ 0 ∷ 2 ∷ 0 ∷ 0 ∷ 1 ∷ 1 ∷ []) (0 ∷ 2 ∷ 0 ∷ 0 ∷ 0 ∷ 0 ∷ 0 ∷ 1 ∷ [])) ≡ record { how = unclosed; word = 3; score = pos 3 }
 unfolding small search settled best last closesIn begin candidates beats traceStart traceWord highest scores decision
 open-above = refl
