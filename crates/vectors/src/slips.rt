@@ -24,7 +24,11 @@ fn word_of(kind: u8, x: u64) -> u64 {
 
 // Likely where the bit for it is set, else one of the three that there were before.
 fn outcome_of(asked: u64, x: u64) -> u8 {
-    if (asked >> 56) % 2 == 1 { 3 } else { (x % 3) as u8 }
+    if (asked >> 56) % 2 == 1 {
+        3
+    } else {
+        (x % 3) as u8
+    }
 }
 
 fn pass_of(outcome: u8, x: u64) -> u8 {
@@ -109,7 +113,11 @@ fn written(seed: u64, f: Fields, bytes: &mut [u8]) -> u64 {
 
 fn write_record(asked: u64) -> u64 {
     let seed = asked % 0x1_0000_0000;
-    let f = with_another(made(asked), (asked >> 32) % 256, ((asked >> 40) % 256) as u8);
+    let f = with_another(
+        made(asked),
+        (asked >> 32) % 256,
+        ((asked >> 40) % 256) as u8,
+    );
     let mut bytes = [0u8; 64];
     let n = ((asked >> 48) % 256 % 65) as usize;
     written(seed, f, &mut bytes[..n])
