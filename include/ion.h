@@ -1,13 +1,14 @@
-/* The receiving core of the ion HF modem, the sending halves of its interleavers, its burst slips and the segment board, proved: the
- * functions of the static library libion.a (`rt staticlib ion`).
+/* The receiving core of the ion HF modem, the sending halves of its interleavers, its burst slips, the segment board and local noise
+ * factors, proved: the functions of the static library libion.a (`rt staticlib ion`).
  *
  * Every function takes any numbers and any buffers of the lengths that are told, and ends. It returns 0, or the number of the
- * refusal (ion_refusal has a text for each); of several causes the one that comes first in the order 1, 12, 2, 3, 4, 5, 11, 6, 7, 8, 9,
- * 10, 13, 14. Results and lent buffers are written only where 0 is returned.
+ * refusal (ion_refusal has a text for each); of several causes the one that comes first in the order 1, 12, 2, 3, 4, 5, 11, 6, 15, 7, 8,
+ * 9, 10, 13, 14. Results and lent buffers are written only where 0 is returned.
  *
  * Buffers: a pointer must be valid for its length and aligned as its type asks; with length 0 it may be NULL. Lent buffers must
  * overlap neither each other nor an input. Nothing is kept between calls, so any threads may call at once over buffers of their own.
- * No function recurses or allocates; ion_read_header takes 9 KiB of stack, ion_track_timing 6, ion_fit_drift 3, the others below 2.
+ * No function recurses or allocates; ion_local_noise takes 12 KiB of stack, ion_read_header 9, ion_track_timing 6, ion_fit_drift 3, the
+ * others below 2.
  *
  * Terms: per symbol five rows of 52 floats, row 0 first, place 0 first in each: 260. Each is a natural logarithm: row j, place e has
  * ln(p(energy at place e | a tone j-2 places below it) / p(energy | noise alone)). Bin b of the mode's grid is place b+2. A value's
@@ -31,10 +32,10 @@ extern "C" {
 
 /* The number of the last change request that is in; 0 is the base. Answer, outcome and tracker will grow. The library has the number
  * in a symbol's name, which every file that includes this header asks for: a library of another version does not link. */
-#define ION_VERSION 107
-uint32_t ion_version_107(void);
+#define ION_VERSION 108
+uint32_t ion_version_108(void);
 #if defined(__GNUC__)
-__attribute__((used)) static uint32_t (*const ion_version)(void) = ion_version_107;
+__attribute__((used)) static uint32_t (*const ion_version)(void) = ion_version_108;
 #endif
 
 /* modes, kinds, the form of data, the first and the last layout, what was heard of a symbol, outcomes of a header read (from the best reading to
@@ -47,14 +48,15 @@ enum { ION_MISSED = 0, ION_HEARD = 1 };
 enum { ION_SURE = 0, ION_KEPT = 1, ION_OPEN = 2, ION_LIKELY = 3 };
 
 /* sizes: header symbols (n below, and as many header bits) by kind, data symbols of so many bits and their slots, terms and values of a
- * symbol, places of a score area, words of decisions for each header symbol, bytes of a slip, places and bytes of a board, the most data
- * bits, data symbols, CRC bits, calls of a tracker (and shifts), blocks */
+ * symbol, places of a score area, words of decisions for each header symbol, bytes of a slip, places and bytes of a board, places of a
+ * row of energies, the most data bits, data symbols, CRC bits, calls of a tracker (and shifts), blocks, rows of energies */
 #define ION_HEADER_SYMBOLS(kind) ((kind) == ION_DATA ? 64 : 48)
 #define ION_DATA_SYMBOLS(bits) (((size_t)(bits) + 4) / 5)
 #define ION_SLOTS(bits) (5 * ION_DATA_SYMBOLS(bits))
 enum { ION_TERMS = 260, ION_VALUES = 32, ION_STATES = 16384, ION_DECISIONS = 256, ION_SLIP = 44 };
-enum { ION_BOARD_PLACES = 512, ION_BOARD_BYTES = 22528 };
-enum { ION_MOST_BITS = 10240, ION_MOST_SYMBOLS = 2048, ION_MOST_CRC_BITS = 1024, ION_MOST_CALLS = 2048, ION_MOST_BLOCKS = 64 };
+enum { ION_BOARD_PLACES = 512, ION_BOARD_BYTES = 22528, ION_PLACES = 52 };
+enum { ION_MOST_BITS = 10240, ION_MOST_SYMBOLS = 2048, ION_MOST_CRC_BITS = 1024, ION_MOST_CALLS = 2048, ION_MOST_BLOCKS = 64,
+       ION_MOST_ROWS = 2048 };
 
 /* What a number says; of 0 that it is no refusal. */
 static inline const char *ion_refusal(uint32_t number) {
@@ -74,6 +76,7 @@ static inline const char *ion_refusal(uint32_t number) {
         "a layout not from 1 to 8",
         "bytes that are no slip, values that no slip holds, or a board that is broken",
         "a slip for an unlisted segment where 512 are listed",
+        "over 2,048 rows, or eps, r, a noise or an energy out of range",
     };
     return number < sizeof text / sizeof *text ? text[number] : "no number of this library";
 }
@@ -205,6 +208,25 @@ uint32_t ion_put_slip(uint8_t *board, size_t board_len, uint32_t *count, const u
 uint32_t ion_soft_values(uint8_t mode, uint8_t kind, uint8_t layout, uint8_t symbols, uint32_t window, uint32_t bits, const float *terms,
                          size_t terms_len, const uint32_t *blanked, size_t blanked_len, float *work, size_t work_len,
                          float *metrics, size_t metrics_len, float *soft, size_t soft_len);
+
+/* Local noise factors: how many times as loud as its burst's noise each place is about each data symbol, at least 1. A generator that
+ * raises some places for part of a burst is seen in their factors there, a crash over one symbol in all of its row. energies: rows*52
+ * floats, a row for each data symbol from the first one behind the header on, place 0 first in each. noise: 52, of each place for the
+ * whole burst, in the same unit. eps, r: which part of the empty places is disturbed, and how many times the noise it has. factors:
+ * rows*52, places as in energies. Bin b of the mode's grid is place b+2; a mode has its bins and four places more, 52 in R0 and 36 in R1.
+ *
+ * A factor is the greatest of 1, its row's level and its place's level, all in f32, each operation rounded. Let z be an energy over its
+ * place's noise. In each row the strongest tone is the greatest z among the places of the symbol's 32 values, of equal ones that of the
+ * least value; the five places about it are missing, and the others of the mode, 47 or 31, are there.
+ * - The row's level: of the m values of z that are there the one in the middle, over ln 2, less 3/sqrt(m).
+ * - The place's level: the mean of its z over this row, the twelve before and the twelve behind, as far as there are such rows and it is
+ *   there in them, over 1 + eps*(r-1), less 2/sqrt(their number). Where it is there in fewer than six of them there is none.
+ * Places from the mode's on (36 to 51 in R1) have 1; what is given for them is not used, but is refused out of range as any other.
+ * Proved: every factor is finite and at least 1. Five places are missing in every row. Each root is the float nearest to it.
+ * Refused: 1, 4 (energies_len or factors_len is not rows*52, or noise_len not 52), 15 (over 2,048 rows; eps not in 0..0.5; r not in
+ * 1..1,000; one of the 52 noises not in 2^-20..10^9; one of the 52 energies of a row not in 0..10^9). */
+uint32_t ion_local_noise(uint8_t mode, uint8_t kind, uint32_t rows, const float *energies, size_t energies_len, const float *noise,
+                         size_t noise_len, float eps, float r, float *factors, size_t factors_len);
 
 /* The drift, in samples a symbol, by up to 64 blocks, whose fields come in two lists of one length: twice the place, counted in symbols,
  * 0 to 4,096 and never falling, and the timing in samples, within +-4,096. Below six blocks 0.

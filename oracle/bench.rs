@@ -1,11 +1,12 @@
 // Times of the entries against the Rust's, ours through the C functions of libion.a, the same inputs in one run, taking turns, in CPU time: median
-// and spread of the ratios; slips by themselves, and puts on a board against the second board of board.rs. Then soft values by the number of
-// symbols, as a plot. Built and run by bench.sh.
+// and spread of the ratios; slips by themselves, and puts on a board against the second board of board.rs; local noise by the number of rows. Then
+// soft values by the number of symbols, as a plot. Built and run by bench.sh.
 mod board;
 mod clock;
 #[allow(dead_code)]
 mod face;
 mod inputs;
+mod noisy;
 mod slip;
 
 use board::Board;
@@ -13,6 +14,7 @@ use clock::{spread, timed};
 use face::{Header, Soft};
 use inputs::{Dice, board_of, lawful_slip, rows, sample, styled};
 use ion::phy_mfsk::hook::{Kind, MfskMode, Tracker, air, code, decode_terms, soft_terms};
+use noisy::{ROW, Theirs, drawn};
 use slip::Slip;
 use std::fmt::Write;
 use std::hint::black_box;
@@ -148,6 +150,28 @@ fn puts(repeats: usize, name: &str, listed: u16, number: u32, slip_at: impl Fn(u
     line(name, &done);
 }
 
+/// Local noise factors of bursts of so many rows, some of their bins raised for part of them, in nanoseconds a row. Every repeat has some 4,096
+/// rows, each once: all sizes find their rows as cold, and no call learns from one before it. Returns our least time: what other work on the
+/// machine adds is no part of the growth.
+fn local_noise(repeats: usize, rows: u32, mode: u8) -> f64 {
+    let calls = (4_096 / rows) as usize;
+    let done = pairs(repeats, |i, first| {
+        let mut d = Dice(8 << 50 | i << 20);
+        let bursts: Vec<_> = (0..calls).map(|_| drawn(&mut d, 1, mode, 1, rows)).collect();
+        let rust: Vec<_> = bursts.iter().map(Theirs::new).collect();
+        // each call has its own factors, not the ones that the call before has warmed, as the Rust's are made anew
+        let mut factors = vec![vec![2f32; ROW * rows as usize]; calls];
+        let ours = || bursts.iter().zip(&mut factors).map(|(b, f)| black_box(b).factors(f)).max();
+        let theirs = || rust.iter().map(|b| black_box(b).factors()).collect::<Vec<_>>();
+        let ((ours, k), (theirs, all)) = by_turns(first, ours, theirs);
+        assert!(k == Some(0) && all == factors);
+        let a_row = 1e6 / (calls * rows as usize) as f64;
+        (ours * a_row, theirs * a_row)
+    });
+    line(&format!("local noise in R{mode}, rows {rows}"), &done);
+    spread(done.iter().map(|p| p.0).collect())[1]
+}
+
 const SIZES: [usize; 9] = [64, 128, 256, 512, 768, 1024, 1280, 1536, 2048];
 /// Name and colour of a line of the plot.
 const LINES: [(&str, &str); 4] = [("ours, bit form", "#0b5cad"), ("ours, symbol form", "#58a6e8"), ("the Rust, bit form", "#a33b00"), ("the Rust, symbol form", "#ee8a4a")];
@@ -222,6 +246,11 @@ fn main() {
     puts(repeats, "slip put, one of 512 remains", 512, 0, |_, s| Slip { start: 0, outcome: 2, pass: 0, segment: 1512, ..s });
     puts(repeats, "slip put, refused with 14", 512, 14, |_, s| Slip { segment: 1513, ..s });
     puts(repeats, "slip put, in front of 511", 511, 0, |j, s| Slip { segment: 999 - j, ..s });
+    println!("ours / the Rust, {repeats} repeats      median   least  greatest   ours, ns  the Rust, ns  (a row)");
+    for mode in 0..2 {
+        let a_row = [1, 25, 256, 1_024, 2_048].map(|rows| local_noise(repeats, rows, mode));
+        println!("local noise in R{mode}, ours, least ns a row: of 2,048 rows {:.3} of what it is of 256", a_row[4] / a_row[2]);
+    }
     let (few, mut lines): (usize, [Vec<f64>; 4]) = (repeats.div_ceil(4), Default::default());
     for n in SIZES {
         for form in 0..2 {

@@ -7,6 +7,8 @@ mod drift;
 mod exact;
 mod face;
 mod inputs;
+mod noise;
+mod noisy;
 mod read;
 mod sending;
 mod sent;
@@ -221,6 +223,7 @@ fn main() {
     sending::all(&mut wrong);
     slips::all(&mut wrong);
     boards::all(&mut wrong);
+    noise::all(&mut wrong);
     soft::all(&mut wrong);
     let headers = std::env::args().nth(1).map_or(2_400, |n| n.parse().expect("how many headers of each style"));
     read::all(&mut wrong, headers);

@@ -22,6 +22,10 @@ unsafe extern "C" {
         segment: *mut u16,
     ) -> u32;
     fn ion_put_slip(board: *mut u8, board_len: usize, count: *mut u32, slip: *const u8, slip_len: usize) -> u32;
+    fn ion_local_noise(
+        mode: u8, kind: u8, rows: u32, energies: *const f32, energies_len: usize, noise: *const f32, noise_len: usize, eps: f32, r: f32, factors: *mut f32,
+        factors_len: usize,
+    ) -> u32;
     fn ion_fit_drift(mode: u8, places: *const u32, places_len: usize, timings: *const f64, timings_len: usize, drift: *mut f64) -> u32;
     fn ion_track_timing(
         mode: u8, n: *mut usize, shift: *mut i32, tnum: *mut f64, tden: *mut f64, drift: *mut f64, blocks: *mut usize, shifts: *mut i32, shifts_len: usize,
@@ -120,6 +124,26 @@ pub fn read_slip(string: &[u8], s: &mut Slip) -> u32 {
 
 pub fn put_slip(board: &mut [u8], count: &mut u32, slip: &[u8]) -> u32 {
     unsafe { ion_put_slip(board.as_mut_ptr(), board.len(), count, slip.as_ptr(), slip.len()) }
+}
+
+/// What local noise factors are worked out from.
+#[derive(Clone)]
+pub struct Noise {
+    pub mode: u8,
+    pub kind: u8,
+    pub rows: u32,
+    pub energies: Vec<f32>,
+    pub noise: Vec<f32>,
+    pub eps: f32,
+    pub r: f32,
+}
+
+impl Noise {
+    pub fn factors(&self, factors: &mut [f32]) -> u32 {
+        let Noise { mode, kind, rows, energies, noise, eps, r } = self;
+        let room = factors.len();
+        unsafe { ion_local_noise(*mode, *kind, *rows, energies.as_ptr(), energies.len(), noise.as_ptr(), noise.len(), *eps, *r, factors.as_mut_ptr(), room) }
+    }
 }
 
 pub fn fit_drift(mode: u8, places: &[u32], timings: &[f64], drift: &mut f64) -> u32 {

@@ -1,5 +1,5 @@
 #!/bin/sh
-# Builds the Rust as it lies in ../shared/docs/src and the static library `ion`, and runs all twelve entries side by side
+# Builds the Rust as it lies in ../shared/docs/src and the static library `ion`, and runs all thirteen entries side by side
 # on bursts made by a channel or by terms, random input and damaged input. Under 20 minutes on two cores. Ends with a
 # table; 1 on any difference.
 # usage: oracle/scale.sh [SEED] [OPTION..]      (from anywhere; needs rustc and ../shared; writes only below target/)

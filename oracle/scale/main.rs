@@ -1,4 +1,4 @@
-// Runs all twelve entries side by side at scale: ours through the C functions of libion.a, the Rust's through the hook, and for slips and
+// Runs all thirteen entries side by side at scale: ours through the C functions of libion.a, the Rust's through the hook, and for slips and
 // the board, which the Rust has not, the second writer and reader of slip.rs and the second board of board.rs.
 // Built and run by scale.sh, whose head says what can be asked.
 #[path = "../board.rs"]
@@ -9,6 +9,8 @@ mod face;
 mod inputs;
 #[path = "../made.rs"]
 mod made;
+#[path = "../noisy.rs"]
+mod noisy;
 #[path = "../second.rs"]
 mod second;
 #[path = "../slip.rs"]
@@ -18,6 +20,7 @@ mod boards;
 mod check;
 mod headers;
 mod jobs;
+mod noise;
 mod replay;
 mod rivals;
 mod sending;
@@ -113,7 +116,7 @@ fn main() {
     if let Some(folder) = &a.replay {
         exit(replay::all(&o, folder, a.plant.map(|p| (p.1, p.2))));
     }
-    let mut jobs: Vec<Job> = small::jobs().into_iter().chain(sending::jobs()).chain(slips::jobs()).chain(boards::jobs()).chain(tracker::jobs()).chain(soft::jobs()).chain(headers::jobs()).collect();
+    let mut jobs: Vec<Job> = small::jobs().into_iter().chain(sending::jobs()).chain(slips::jobs()).chain(boards::jobs()).chain(noise::jobs()).chain(tracker::jobs()).chain(soft::jobs()).chain(headers::jobs()).collect();
     let names: Vec<String> = jobs.iter().map(|j| j.name()).collect();
     for name in a.only.iter().chain(a.plant.iter().map(|p| &p.0)) {
         if !names.contains(name) {

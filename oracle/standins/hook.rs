@@ -120,6 +120,16 @@ impl ParamsBox {
     pub fn fitted(e: &[[f32; NE]], mode: MfskMode) -> Self {
         ParamsBox(model::estimate(e, &MfskRx::preamble_known()[..e.len().min(16)], NE))
     }
+    /// What `local_noise` reads of a model, as given: the bins in use, the noise of each, eps and r.
+    pub fn of(mode: MfskMode, noise: &[f32; NE], eps: f32, r: f32) -> Self {
+        let mut p = model::estimate(&[[1.0; NE]], &[], Grid::new(mode).ne);
+        (p.noise, p.eps, p.r) = (*noise, eps, r);
+        ParamsBox(p)
+    }
+}
+/// `local_noise` itself, of the rows behind a header of this kind.
+pub fn local_factors(mode: MfskMode, kind: Kind, e: &[[f32; NE]], p: &ParamsBox) -> Vec<[f32; NE]> {
+    local_noise(e, &p.0, Fmt::of(mode), frame::header_symbols(mode, kind))
 }
 /// The same half from terms: data.rs 129 to 191 with three lines changed by make.sh (the loop's head, `tm`, and the fading sums out).
 pub fn soft_terms(mode: MfskMode, symbols: bool, hsyms: usize, nbits: usize, terms: &[Terms], blanked: &[f32]) -> Soft {

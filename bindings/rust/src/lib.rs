@@ -1,5 +1,5 @@
-//! The proved receiving core of the ion HF modem, the sending halves of its interleavers, its burst slips and the segment board, in Rust's
-//! own manner: slices, enums and `Result` over `include/ion.h`.
+//! The proved receiving core of the ion HF modem, the sending halves of its interleavers, its burst slips, the segment board and local noise
+//! factors, in Rust's own manner: slices, enums and `Result` over `include/ion.h`.
 //!
 //! Build the library first: `rt staticlib ion` at the repository's root. Every function takes any input and ends. One that
 //! answers `Err` has written nothing. No function keeps anything between calls, so any threads may call at once.
@@ -50,16 +50,20 @@ mod sys {
             start: *mut u64, segment: *mut u16,
         ) -> u32;
         pub fn ion_put_slip(board: *mut u8, board_len: usize, count: *mut u32, slip: *const u8, slip_len: usize) -> u32;
-        pub fn ion_version_107() -> u32;
+        pub fn ion_local_noise(
+            mode: u8, kind: u8, rows: u32, energies: *const f32, energies_len: usize, noise: *const f32, noise_len: usize, eps: f32, r: f32,
+            factors: *mut f32, factors_len: usize,
+        ) -> u32;
+        pub fn ion_version_108() -> u32;
     }
 }
 
 /// The number of the last change request that is in; 0 is the base. The library has it in a symbol's name, so a library of another
 /// version does not link.
-pub const VERSION: u32 = 107;
+pub const VERSION: u32 = 108;
 
 #[used]
-static VERSION_LINKED: unsafe extern "C" fn() -> u32 = sys::ion_version_107;
+static VERSION_LINKED: unsafe extern "C" fn() -> u32 = sys::ion_version_108;
 
 /// Terms of a symbol: five rows of 52.
 pub const TERMS: usize = 260;
@@ -85,6 +89,10 @@ pub const CRC_BITS: usize = 1_024;
 pub const CALLS: usize = 2_048;
 /// The most blocks of a fit.
 pub const BLOCKS: usize = 64;
+/// Places of a row of energies: bin b of the mode's grid is place b + 2.
+pub const PLACES: usize = 52;
+/// The most rows of energies.
+pub const ROWS: usize = 2_048;
 
 /// The mode of a burst.
 #[derive(Clone, Copy, Debug, PartialEq, Eq, Hash)]
@@ -168,7 +176,7 @@ pub enum Form {
 }
 
 /// Why nothing was done: the papers' causes. Of several causes, the one whose number comes first in the order 1, 12, 2, 3, 4, 5, 11, 6,
-/// 7, 8, 9, 10, 13, 14.
+/// 15, 7, 8, 9, 10, 13, 14.
 #[derive(Clone, Copy, Debug, PartialEq, Eq, Hash)]
 #[non_exhaustive]
 pub enum Refusal {
@@ -200,15 +208,17 @@ pub enum Refusal {
     Slip,
     /// A slip for an unlisted segment, where [`SEGMENTS`] are listed.
     Full,
+    /// Over [`ROWS`] rows, or eps, r, a noise or an energy out of range.
+    Noise,
     /// A number that these bindings have no name for. No function of this version answers one.
     Unnamed(u32),
 }
 
 impl Refusal {
     /// By their numbers, from 1 on.
-    const NAMED: [Refusal; 14] = [
+    const NAMED: [Refusal; 15] = [
         Refusal::Name, Refusal::Count, Refusal::Window, Refusal::Length, Refusal::Bit, Refusal::Term, Refusal::Blanked, Refusal::Sample,
-        Refusal::Tracker, Refusal::Blocks, Refusal::Value, Refusal::Layout, Refusal::Slip, Refusal::Full,
+        Refusal::Tracker, Refusal::Blocks, Refusal::Value, Refusal::Layout, Refusal::Slip, Refusal::Full, Refusal::Noise,
     ];
 
     /// The number in the papers.
@@ -219,6 +229,7 @@ impl Refusal {
     /// assert_eq!(ion_proved::Refusal::Layout.number(), 12);
     /// assert_eq!(ion_proved::Refusal::Slip.number(), 13);
     /// assert_eq!(ion_proved::Refusal::Full.number(), 14);
+    /// assert_eq!(ion_proved::Refusal::Noise.number(), 15);
     /// ```
     pub fn number(self) -> u32 {
         match self {
@@ -252,6 +263,7 @@ impl fmt::Display for Refusal {
             Refusal::Layout => "a layout not from 1 to 8",
             Refusal::Slip => "bytes that are no slip, values that no slip holds, or a board that is broken",
             Refusal::Full => "a slip for an unlisted segment where 512 are listed",
+            Refusal::Noise => "over 2,048 rows, or eps, r, a noise or an energy out of range",
             Refusal::Unnamed(_) => "a number without a name here",
         };
         write!(f, "refused by number {}: {why}", self.number())
@@ -753,6 +765,61 @@ pub fn soft_values(
         )
     })?;
     Ok(soft)
+}
+
+/// Local noise factors: how many times as loud as its burst's noise each place is about each data symbol, at least 1, a row of [`PLACES`] for
+/// each row of energies. A generator that raises some places for part of a burst is seen in their factors there, a crash over one symbol in
+/// all of its row.
+///
+/// `energies` has a row for each data symbol, from the first one behind the header on, `noise` the noise of each place for the whole burst, in
+/// the same unit; a part `eps` of the empty places is disturbed and has `r` times the noise. A mode has its bins and four places more, 52 in
+/// R0 and 36 in R1; places from there on have 1.
+///
+/// A factor is the greatest of 1, its row's level and its place's level, in `f32`. Let z be an energy over its place's noise. In each row the
+/// five places about the strongest tone (the greatest z among the places of the symbol's 32 values, of equal ones that of the least value)
+/// are missing.
+/// - The row's level: of the m values of z that are there the one in the middle, over ln 2, less 3/√m.
+/// - The place's level: the mean of its z over this row, the twelve before and the twelve behind, as far as there are such rows and it is
+///   there in them, over 1 + eps·(r - 1), less 2/√(their number). Where it is there in fewer than six of them there is none.
+///
+/// Proved: every factor is finite and at least 1; five places are missing in every row; each root is the `f32` nearest to it.
+///
+/// [`Refusal::Noise`] where there are over [`ROWS`] rows, or `eps` is not in 0 to 0.5, `r` in 1 to 1,000, a noise in 2^-20 to 10^9 or an
+/// energy in 0 to 10^9, those of places that the mode does not have among them.
+///
+/// ```
+/// use ion_proved::{Kind, Mode, PLACES, ROWS, Refusal, local_noise};
+/// // half the noise everywhere, a strong tone at place 5, and at place 20 a generator
+/// let mut row = [0.5; PLACES];
+/// (row[5], row[20]) = (100.0, 8.0);
+/// let mut rows = vec![row; 25];
+/// let noise = [1.0; PLACES];
+/// let factors = local_noise(Mode::R1, Kind::Data, &rows, &noise, 0.0, 1.0)?;
+/// // about row 12 there are 25 rows: their mean less 2/√25
+/// assert_eq!(factors[12][20], 7.6);
+/// assert!(factors.iter().all(|f| (0..PLACES).all(|place| f[place] == 1.0 || place == 20)));
+///
+/// // R1 does not have place 40, but what is given for it is a number
+/// rows[24][40] = f32::NAN;
+/// assert_eq!(local_noise(Mode::R1, Kind::Data, &rows, &noise, 0.0, 1.0), Err(Refusal::Noise));
+/// assert_eq!(local_noise(Mode::R1, Kind::Data, &vec![row; ROWS + 1], &noise, 0.0, 1.0), Err(Refusal::Noise));
+/// assert_eq!(local_noise(Mode::R0, Kind::Cue, &[], &noise, 0.0, 1.0), Ok(vec![]));
+/// # Ok::<(), Refusal>(())
+/// ```
+pub fn local_noise(
+    mode: Mode, kind: Kind, energies: &[[f32; PLACES]], noise: &[f32; PLACES], eps: f32, r: f32,
+) -> Result<Vec<[f32; PLACES]>, Refusal> {
+    let mut factors = vec![[0.0; PLACES]; energies.len()];
+    // rows that a u32 cannot count are told as another number than the buffers have, and refused by their length
+    let rows = energies.len().try_into().unwrap_or(u32::MAX);
+    let (energies, lent) = (energies.as_flattened(), factors.as_flattened_mut());
+    // SAFETY: every slice is told with its own length; the lent one cannot overlap the others.
+    Refusal::told(unsafe {
+        sys::ion_local_noise(
+            mode as u8, kind as u8, rows, energies.as_ptr(), energies.len(), noise.as_ptr(), noise.len(), eps, r, lent.as_mut_ptr(), lent.len(),
+        )
+    })?;
+    Ok(factors)
 }
 
 /// A block of symbols: twice its place, counted in symbols, 0 to 4,096, and its timing in samples, within ±4,096.

@@ -3,6 +3,7 @@
 pub mod air;
 pub mod boards;
 pub mod data;
+pub mod local;
 pub mod read;
 pub mod slips;
 pub mod timing;
@@ -12,8 +13,8 @@ ghost use mathlib.Core.Path.{_≡_};
 // The number of the last change request that is in, 0 for the base, in the symbol's name too: a header of another version
 // asks for another symbol and does not link.
 #[no_mangle]
-pub extern "C" fn ion_version_107() -> u32
-    ensures { λ r. ⌜ r ≡ 107 ⌝ }
+pub extern "C" fn ion_version_108() -> u32
+    ensures { λ r. ⌜ r ≡ 108 ⌝ }
 {
-    107
+    108
 }

@@ -1,0 +1,6 @@
+-- Laws of this crate's definitions, for its own proofs and its callers'; `Turns` is for its loops.
+pub mod Counting
+pub mod Found
+pub mod Five
+pub mod Tone
+pub mod Turns

@@ -1,0 +1,3 @@
+-- The laws of this crate's definitions, and of how the code holds 25 rows.
+pub mod Fill
+pub mod Rows
