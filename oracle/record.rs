@@ -1,12 +1,19 @@
-// Writes recorded answers of the Rust to standard output, 17 bytes a record: for crates/vectors/stdin, or with the word
-// `series` fits and series of the tracker for crates/series/stdin, or with the word `boards` series of slips put on a board, by the model of board.rs, for
-// crates/board_series/stdin.
+// Writes recorded answers of the Rust to standard output, 17 bytes a record: for crates/vectors/stdin, or with the word `series` fits
+// and series of the tracker for crates/series/stdin, or with the word `boards` series of slips put on a board, by the model of board.rs,
+// for crates/board_series/stdin, or with the word `noise` local noise factors, and by the table of noisy.rs what is refused of them, for
+// crates/noise_series/stdin.
 use ion::phy_mfsk::hook::{Fmt, Kind, MfskMode, Terms, Tracker, air, code, decode_terms, decode_terms_told, blanked_frac, fit_drift, soft_terms, windows};
 use board::Board;
+use face::Noise;
+use noisy::{ENERGY, EPS, NOISE, R, Theirs};
 use slip::Slip;
 use std::io::Write;
 
 mod board;
+#[allow(dead_code)] // only what local noise is given: ours is not linked here
+mod face;
+mod inputs;
+mod noisy;
 mod slip;
 
 /// The terms that crates/vectors works out from a seed: whole numbers from -2 to 2, with the values of a header raised
@@ -481,6 +488,193 @@ fn boards(put: Put) {
     }
 }
 
+// Local noise factors, for crates/noise_series. `what` is 210. `asked` has a seed in bits 0 to 31, how many rows (n) in bits 32 to 43,
+// the mode in 44 and 45, the kind in 46 and 47, a style in 48 to 51, and in 52 to 55 and 56 to 59 two damages, 0 for none. All numbers are
+// u64; mix64 is the papers'. Every float is drawn as its bits, so that neither side rounds what is given.
+//
+// Word i of list l is word(l, i) = mix64(seed xor (l << 56) xor (i << 32)).
+//
+// Energy `at`, of row i = at / 52 and place b = at % 52, by x = word(0, at):
+//   style 0: ordinary noise from 2^-5 to 2^2, bits 0x3D00_0000 + x % 0x0380_0000, times 2^k (bits + (k << 23)), where k is
+//     8 where (w >> 8) % 52 = b, w = word(5, i) being the row's word (a tone in each row),
+//     else 5 where w % 16 = 0 (a crash over the row),
+//     else 2 + seed % 5 where f <= b <= f + (seed / 64) % 8, f = seed % 52, and (i % 32 + (seed / 512) % 32) % 32 < 16 (a generator in
+//     some places for half of the rows), else 0
+//   style 1: ties, x % 4 itself
+//   style 2: zeros of the sign (x >> 8) % 2, but where x % 8 = 0 bits 0x3F80_0000 + (x >> 8) % 0x0200_0000
+//   style 3: both ends, by x % 6 one of 0, -0, 10^9, the least float above 0, the least normal one and 1
+//   style 4: any size, bits x % (1 + the bits of 10^9)
+//   style 5: all equal over their noise, which is taken times 2^(seed % 4)
+// Noise b, by x = word(1, b): in style 1 1 or 2 by x % 2; in style 3 one of 2^-20, 10^9 and 1 by x % 3; in style 4 of bits from those of
+// 2^-20 to those of 10^9 by x; else from 1/2 up to 2, bits 0x3F00_0000 + x % 0x0100_0000.
+// eps, by x = word(3, 0): in style 3 one of 0, -0 and 1/2 by x % 3; in style 4 of bits from 0 to those of 1/2 by x; else from those of
+// 2^-7 to those of 1/2.
+// r, by x = word(3, 1): in style 3 1 or 1,000 by x % 2; in style 4 of bits from those of 1 to those of 1,000 by x; else from those of 1
+// up to those of 8, 8 left out.
+// (`of bits from a to b by x` is a + x % (b - a + 1).)
+// Factor i before the call, by x = word(2, i): bits ((x % 2) << 31) + (x >> 1) % 0x7F80_0000.
+//
+// Damage k has the word w = word(4, k). A bad value is by w % 6 the next float above its range, the next below it, infinity, -infinity,
+// NaN or -1.
+//   1, 2: an energy is bad, in row 0, n - 1 or n / 2 by (w >> 8) % 3, at place (w >> 16) % 52 by 1, 36 + (w >> 16) % 16 by 2
+//   3, 4: a noise is bad, at place (w >> 16) % 52 by 3, 36 + (w >> 16) % 16 by 4
+//   5: eps is bad; 6: r is bad
+//   7, 8, 9: of the energies, the noise or the factors one too few is lent where w % 2 = 0 and there are any, else one too many
+//   10: the rows told are n + 1 where w % 2 = 0, else n + 2^30, 52 times which is the same in 32 bits
+//   11: the mode is 2 + w % 254; 12: the kind is 3 + w % 253
+//
+// The answer is a digest: h = mix64(seed xor number), the number being 0 or the refusal's; then for each factor lent, the first one
+// first, h = mix64(h xor its bits), which on a refusal are those from before the call.
+fn word(seed: u64, list: u64, i: usize) -> u64 {
+    air::mix64(seed ^ list << 56 ^ (i as u64) << 32)
+}
+
+/// Bits from those of the least to those of the greatest.
+fn between((least, most): (f32, f32), x: u64) -> f32 {
+    let least = least.to_bits() as u64;
+    f32::from_bits((least + x % (most.to_bits() as u64 - least + 1)) as u32)
+}
+
+/// By how many powers of two a place is raised over ordinary noise.
+fn raised(seed: u64, i: usize, b: u64) -> u32 {
+    let (w, first) = (word(seed, 5, i), seed % 52);
+    let on = (i as u64 % 32 + seed / 512 % 32) % 32 < 16;
+    match () {
+        _ if (w >> 8) % 52 == b => 8,
+        _ if w % 16 == 0 => 5,
+        _ if on && (first..=first + seed / 64 % 8).contains(&b) => 2 + (seed % 5) as u32,
+        _ => 0,
+    }
+}
+
+fn energy_at(seed: u64, style: u64, at: usize) -> f32 {
+    let x = word(seed, 0, at);
+    match style {
+        1 => (x % 4) as f32,
+        2 if x % 8 == 0 => f32::from_bits(0x3F80_0000 + ((x >> 8) % 0x0200_0000) as u32),
+        2 => [0.0, -0.0][(x >> 8) as usize % 2],
+        3 => [ENERGY.0, -0.0, ENERGY.1, f32::from_bits(1), f32::MIN_POSITIVE, 1.0][(x % 6) as usize],
+        4 => between(ENERGY, x),
+        5 => f32::from_bits(noise_at(seed, style, at % 52).to_bits() + ((seed % 4) << 23) as u32),
+        _ => f32::from_bits(0x3D00_0000 + (x % 0x0380_0000) as u32 + (raised(seed, at / 52, at as u64 % 52) << 23)),
+    }
+}
+
+fn noise_at(seed: u64, style: u64, b: usize) -> f32 {
+    let x = word(seed, 1, b);
+    match style {
+        1 => [1.0, 2.0][(x % 2) as usize],
+        3 => [NOISE.0, NOISE.1, 1.0][(x % 3) as usize],
+        4 => between(NOISE, x),
+        _ => f32::from_bits(0x3F00_0000 + (x % 0x0100_0000) as u32),
+    }
+}
+
+fn eps_r(seed: u64, style: u64) -> (f32, f32) {
+    let (x, y) = (word(seed, 3, 0), word(seed, 3, 1));
+    match style {
+        3 => ([EPS.0, -0.0, EPS.1][(x % 3) as usize], [R.0, R.1][(y % 2) as usize]),
+        4 => (between(EPS, x), between(R, y)),
+        _ => (between((1.0 / 128.0, 0.5), x), between((1.0, 8f32.next_down()), y)),
+    }
+}
+
+/// Does a damage to what is given, or to how many factors are lent.
+fn damaged(seed: u64, k: u64, b: &mut Noise, room: &mut usize) {
+    let w = word(seed, 4, k as usize);
+    let bad = |(least, most): (f32, f32)| [most.next_up(), least.next_down(), f32::INFINITY, f32::NEG_INFINITY, f32::NAN, -1.0][(w % 6) as usize];
+    let rows = b.energies.len() / 52;
+    let row = [0, rows.saturating_sub(1), rows / 2][(w >> 8) as usize % 3];
+    let place = if k % 2 == 1 { (w >> 16) % 52 } else { 36 + (w >> 16) % 16 } as usize;
+    let other = |n: usize| if w % 2 == 0 && n > 0 { n - 1 } else { n + 1 };
+    match k {
+        1 | 2 => b.energies[52 * row + place] = bad(ENERGY),
+        3 | 4 => b.noise[place] = bad(NOISE),
+        5 => b.eps = bad(EPS),
+        6 => b.r = bad(R),
+        7 => b.energies.resize(other(b.energies.len()), 1.0),
+        8 => b.noise.resize(other(b.noise.len()), 1.0),
+        9 => *room = other(*room),
+        10 => b.rows += [1, 1 << 30][(w % 2) as usize],
+        11 => b.mode = 2 + (w % 254) as u8,
+        12 => b.kind = 3 + (w % 253) as u8,
+        _ => (),
+    }
+}
+
+/// What a record asks, and how many factors are lent.
+fn noise_of(asked: u64) -> (Noise, usize) {
+    let (seed, rows, style) = (asked % REFUSED, (asked >> 32) as usize % 4096, (asked >> 48) % 16);
+    let (eps, r) = eps_r(seed, style);
+    let mut b = Noise {
+        mode: (asked >> 44) as u8 % 4,
+        kind: (asked >> 46) as u8 % 4,
+        rows: rows as u32,
+        energies: (0..52 * rows).map(|at| energy_at(seed, style, at)).collect(),
+        noise: (0..52).map(|b| noise_at(seed, style, b)).collect(),
+        eps,
+        r,
+    };
+    let mut room = 52 * rows;
+    // values before lengths, so that a value's place is there
+    let mut damages = [(asked >> 52) % 16, (asked >> 56) % 16];
+    damages.sort();
+    damages.into_iter().for_each(|k| damaged(seed, k, &mut b, &mut room));
+    (b, room)
+}
+
+/// The Rust's factors, or those from before the call where document 02 has a refusal.
+fn noise_digest(asked: u64) -> u64 {
+    let (seed, (b, room)) = (asked % REFUSED, noise_of(asked));
+    let number = noisy::number(&b, room);
+    let before = |x: u64| f32::from_bits(((x % 2) << 31 | (x >> 1) % 0x7F80_0000) as u32);
+    let factors = if number == 0 { Theirs::new(&b).factors() } else { (0..room).map(|i| before(word(seed, 2, i))).collect() };
+    factors.iter().fold(air::mix64(seed ^ number as u64), |h, x| air::mix64(h ^ x.to_bits() as u64))
+}
+
+/// Document 02, #108: every style over few rows and many, in both modes and behind every kind, and what is refused.
+fn local_noise(put: Put) {
+    let mut seeds = 10_800..;
+    let mut ask = |put: Put, (mode, kind): (u64, u64), n: u64, style: u64, damages: [u64; 2], fits: &dyn Fn(u64) -> bool| {
+        let seed = seeds.find(|&seed| fits(seed)).unwrap();
+        let asked = seed | n << 32 | mode << 44 | kind << 46 | style << 48 | damages[0] << 52 | damages[1] << 56;
+        put(210, asked, noise_digest(asked));
+    };
+    let any = |_: u64| true;
+    let behind = |turn: u64| (turn % 2, turn / 2 % 3);
+    for style in 0..6 {
+        // 2,048 is the most
+        let many = [2_048, 2_047, 1_000, 300, 2_048, 130][style as usize];
+        for (n, turn) in [0, 1, 5, 6, 12, 13, 25, 26, 60, 200, many].into_iter().zip(style..) {
+            ask(put, behind(turn), n, style, [0, 0], &any);
+        }
+    }
+    // a value past either end, then no number of its range at all; places that R1 does not read among them
+    for (k, style) in (1..7u64).zip(0..) {
+        for which in [0, 1, 2 + k % 4] {
+            let mode = if k % 2 == 0 && k < 5 { 1 } else { which % 2 };
+            ask(put, (mode, k % 3), 7 + 6 * k, style, [k, 0], &|seed| word(seed, 4, k as usize) % 6 == which);
+        }
+    }
+    // lengths and rows told, each either way, then a mode and a kind that are not named
+    for k in 7..13u64 {
+        for which in 0..if k < 11 { 2 } else { 1 } {
+            ask(put, behind(k), 5 * k - 30, k % 6, [k, 0], &|seed| k > 10 || word(seed, 4, k as usize) % 2 == which);
+        }
+    }
+    // of two causes the first in the order 1, 4, 15
+    for (damages, turn) in [[11, 7], [8, 12], [5, 7], [9, 6], [1, 8], [11, 5], [3, 12], [10, 4]].into_iter().zip(0..) {
+        ask(put, behind(turn), 26, turn % 6, damages, &any);
+    }
+    // a row too many by itself, and beside what comes before it; no rows, with something wrong
+    for (k, turn) in [0, 7, 11].into_iter().zip(3..) {
+        ask(put, behind(turn), 2_049, turn % 6, [k, 0], &any);
+    }
+    for (k, turn) in [3, 6, 9].into_iter().zip(0..) {
+        ask(put, behind(turn), 0, turn, [k, 0], &any);
+    }
+}
+
 fn main() {
     let mut out = Vec::new();
     let mut put = |what: u8, asked: u64, answer: u64| {
@@ -491,6 +685,7 @@ fn main() {
     match std::env::args().nth(1).as_deref() {
         Some("series") => drifts(&mut put),
         Some("boards") => boards(&mut put),
+        Some("noise") => local_noise(&mut put),
         _ => vectors(&mut put),
     }
     std::io::stdout().write_all(&out).unwrap();

@@ -5,18 +5,17 @@ use mathlib.Core.List.{List}
 use mathlib.Core.Option.{Option, none, some}
 use mathlib.Core.Path.{_≡_, refl, sym, ap, ap₂, _∙_}
 use native.Mathlib.Omega.{arith}
-use borrow.Author.Tests.{le-leb, lt-leb}
-use lib.Dec.{eqb, ltb}
+use lib.Dec.{eqb}
 use native.Mathlib.Nat.{ne-of-gt}
 use borrow.Author.Count.{below-more}
 use lib.ListN.{length, getD, set, length-set}
 use lib.Seq.{getD-set-other}
 use Rattle.util.proofs.Choose.{chosen, not-chosen}
 use Rattle.util.proofs.Fill.{up-done}
-use lib.Ieee.{Float, nan, lt, le}
+use lib.Ieee.{Float, nan, lt}
 use Rattle.util.specs.Choose.{choose}
 use Rattle.level.specs.Row.{stronger, strongestTo, isAround}
-use Rattle.level.specs.Rank.{passes, once, countOf, ranks}
+use Rattle.level.specs.Rank.{passes, once, countOf}
 use Rattle.level.proofs.Counting.{count-further}
 use Rattle.level.proofs.Tone.{strongest-turn}
 use Rattle.level.specs.Inside.{markOf, heldAt}
@@ -62,16 +61,7 @@ held-there test marks values base b = by (eqb (getD marks (base + b) 0) 1)
     by true e = (refl, e)
     by false e = absurd (true≢false (sym e))
 
--- ---- the rank of a bin that is there, by the two counts
-module _ (held : ℕ → Option Float) (n k : ℕ) (x : Float) where
-  pub too-high : k < countOf (λ y. lt y x) held n → false ≡ ranks held n k x
-  unfolding ranks
-  too-high h = sym (ap (λ (t : Bool). t && ltb k (countOf (λ y. le y x) held n)) (lt-leb _ k h))
-
-  pub by-the-other : countOf (λ y. lt y x) held n ≤ k → ltb k (countOf (λ y. le y x) held n) ≡ ranks held n k x
-  unfolding ranks
-  by-the-other h = sym (ap (λ (t : Bool). t && ltb k (countOf (λ y. le y x) held n)) (le-leb _ k h))
-
+-- what is held of a bin, by its mark
 module _ (test : Float → Bool) (marks : List ℕ) (values : List Float) (base b : ℕ) where
   pub held-is : eqb (getD marks (base + b) 0) 1 ≡ true → passes test (heldAt marks values base b) ≡ test (getD values (base + b) nan)
   held-is t = sym (held-passes test marks values base b) ∙ ap (λ (u : Bool). u && test (getD values (base + b) nan)) t

@@ -1,17 +1,18 @@
 // A row of energies (phy_mfsk/rx/model.rs, the first two steps of `local_noise`): in units of the noise, without the bins
 // around its strongest tone, and its level, by the median of the bins that are left. Definitions in specs/.
 ghost use mathlib.Core.Path.{_≡_};
-ghost use mathlib.Core.Bool.{_&&_};
+ghost use mathlib.Core.Bool.{not, _&&_, _||_};
 ghost use Prim.Native.Nat.{ℕ, _+_, _*_, _≤_, _<_};
 ghost use lib.Dec.{eqb};
 ghost use lib.ListN.{length, getD};
 ghost use lib.Ieee.{nan, lt, le};
+ghost use Rattle.util.specs.Choose.{choose};
 ghost use Rattle.frame.specs.Air.{binOf, placeOf};
 ghost use Rattle.ieee.specs.Within.{larger};
 ghost use Rattle.level.specs.Row.{ratioOf, strongestOf, isAround};
-ghost use Rattle.level.specs.Rank.{passes, once, countOf, ranks, ofRank};
+ghost use Rattle.level.specs.Rank.{once, countOf, ofRank};
 ghost use Rattle.level.specs.Level.{levelFrom};
-ghost use Rattle.level.specs.Inside.{Row, markOf, heldAt};
+ghost use Rattle.level.specs.Inside.{Row, markOf, heldAt, Fenced, Side};
 
 // Inside: the larger of two.
 pub fn larger(x: f32, y: f32) -> f32
@@ -121,31 +122,70 @@ fn not_above(marks: &[u32], row: &[f32], base: usize, read: usize, x: f32) -> u3
     n
 }
 
-// Whether bin b is there and has rank k, from 0, among those of the row that are there.
-fn has_rank(marks: &[u32], row: &[f32], base: usize, read: usize, k: u32, b: usize) -> bool
-    requires { ⌜ Row (now marks) (now row) base read × (b < read) ⌝ }
-    ensures { λ r. ⌜ r ≡ passes (ranks (heldAt (now (marks .entry)) (now (row .entry)) base) read k)
-        (heldAt (now (marks .entry)) (now (row .entry)) base b) ⌝ }
+// Whether a bin need not be tried: it is missing, or lies where no value has the rank. (Nothing compares with a NaN.)
+fn is_fenced(mark: u32, low: f32, high: f32, x: f32) -> bool
+    ensures { λ r. ⌜ r ≡ (not (eqb mark 1) || (le x low || le high x)) ⌝ }
 {
-    if marks[base + b] != 1 {
-        return false;
+    if mark != 1 {
+        return true;
     }
-    let x = row[base + b];
-    if below(marks, row, base, read, x) > k {
-        return false;
+    if x <= low {
+        return true;
     }
-    k < not_above(marks, row, base, read, x)
+    high <= x
 }
 
-// The value of rank k among a row's bins that are there: the first of them that has it. (One has: proofs/Found.antt.)
+// Of bin b: 1 where it is there and has rank k, from 0, among those of the row that are there; else 2 where it lies too low, 3 where it
+// lies too high, and 0 where that is known without counting, by values that were tried.
+fn side_of(
+    marks: &[u32],
+    row: &[f32],
+    base: usize,
+    read: usize,
+    k: u32,
+    low: f32,
+    high: f32,
+    b: usize,
+) -> u8
+    requires { ⌜ Row (now marks) (now row) base read × (b < read) × Fenced (heldAt (now marks) (now row) base) read k low high ⌝ }
+    ensures { λ r. ⌜ Side (now (marks .entry)) (now (row .entry)) base read k b r ⌝ }
+{
+    let x = row[base + b];
+    if is_fenced(marks[base + b], low, high, x) {
+        return 0;
+    }
+    if below(marks, row, base, read, x) > k {
+        return 3;
+    }
+    if k < not_above(marks, row, base, read, x) {
+        return 1;
+    }
+    2
+}
+
+// The first of two where a test holds, else the second.
+fn pick(test: bool, x: f32, y: f32) -> f32
+    ensures { λ r. ⌜ r ≡ choose test x y ⌝ }
+{
+    if test { x } else { y }
+}
+
+// The value of rank k among a row's bins that are there: the first of them that has it. (One has: proofs/Found.antt.) What was tried and
+// lay too low, or too high, fences off what need not be.
 fn of_rank(marks: &[u32], row: &[f32], base: usize, read: usize, k: u32) -> f32
     requires { ⌜ Row (now marks) (now row) base read ⌝ }
     ensures { λ r. ⌜ r ≡ ofRank (heldAt (now (marks .entry)) (now (row .entry)) base) read k ⌝ }
 {
+    let unknown = 0.0 / 0.0;
+    let mut low = unknown;
+    let mut high = unknown;
     for b in 0..read {
-        if has_rank(marks, row, base, read, k, b) {
+        let side = side_of(marks, row, base, read, k, low, high, b);
+        if side == 1 {
             return row[base + b];
         }
+        low = pick(side == 2, row[base + b], low);
+        high = pick(side == 3, row[base + b], high);
     }
     0.0
 }

@@ -7,7 +7,7 @@ use native.Mathlib.Omega.{arith}
 use borrow.Author.Count.{below-more}
 use lib.ListN.{length, getD, set, length-set}
 use lib.Seq.{getD-set-same, getD-set-other}
-use Rattle.nearby.specs.Inside.{Put, Each}
+use Rattle.nearby.specs.Inside.{Put, Each, Onward}
 
 module _ {A : Type 0} (d : A) where
   pub put-begun : (base : ℕ) (row : ℕ → A) (l : List A) → Put d 0 base row l l
@@ -37,4 +37,16 @@ module _ {A : Type 0} (d : A) where
             (λ k p. getD-set-other l w k v d (ne-of-lt p) ∙ s .done k p)
             (getD-set-same l w v d (omega (arith, s .size)) ∙ e ∙ ap (f w) (s .rest w (omega arith)));
         rest = λ k p. let q : w < k = omega arith in getD-set-other l w k v d (ne-of-gt q) ∙ s .rest k (omega arith);
+      }
+
+  -- one place more
+  pub onward-none : (w : ℕ) (f : ℕ → A → A) (l : List A) → Onward d w w f l l
+  onward-none w f l = record { on = λ first e. e; rest = λ k h. refl }
+
+  pub onward-more : (from w : ℕ) (f : ℕ → A → A) (was l : List A) (v : A) → Onward d from w f was l → length l ≡ length was → w < length was
+      → v ≡ f w (getD l w d) → Onward d from (w + 1) f was (set l w v)
+  onward-more from w f was l v o size h e =
+      record {
+        on = λ first p. let q = o .on first p in each-more w f first l v q (omega (arith, q .size, size)) e;
+        rest = λ k p. let far : w < k = omega arith in getD-set-other l w k v d (ne-of-gt far) ∙ o .rest k (omega arith);
       }

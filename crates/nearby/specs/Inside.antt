@@ -22,6 +22,11 @@ pub record Each {A : Type 0} (d : A) (w : ℕ) (f : ℕ → A → A) (was new : 
   pub done : (k : ℕ) → k < w → getD new k d ≡ f k (getD was k d)
   pub rest : (k : ℕ) → w ≤ k → getD new k d ≡ getD was k d
 
+-- where the first `from` of a list had gone through a function before, the first `to` have now, and from `to` on nothing changed
+pub record Onward {A : Type 0} (d : A) (from to : ℕ) (f : ℕ → A → A) (was new : List A) : Type 0 where
+  pub on : (first : List A) → Each d from f first was → Each d to f first new
+  pub rest : (k : ℕ) → to ≤ k → getD new k d ≡ getD was k d
+
 -- the row in place n modulo 25
 abbrev pub placed : List ℕ → List Float → ℕ → ℕ → Option Float
 placed marks values n b = heldAt marks values (52 * (n % 25)) b

@@ -12,7 +12,7 @@ ghost use Rattle.level.specs.Row.{ratioOf, strongestOf, heldOf};
 ghost use Rattle.level.specs.Rank.{once};
 ghost use Rattle.level.specs.Inside.{heldAt};
 ghost use Rattle.nearby.specs.Sum.{withNext};
-ghost use Rattle.nearby.specs.Inside.{Put, Each, Moved, Summed, Counted};
+ghost use Rattle.nearby.specs.Inside.{Put, Each, Onward, Moved, Summed, Counted};
 
 // A sum with the next value, where that is there.
 fn with_next(sum: f32, mark: u32, x: f32) -> f32
@@ -29,13 +29,35 @@ fn count_next(count: u32, mark: u32) -> u32
     if mark == 1 { count + 1 } else { count }
 }
 
-// A row more in the sums of every bin.
+// A row more in the sums of the bins from `from` to before `to`, those before them having it already.
+fn add_bins(marks: &[u32], values: &[f32], base: usize, from: usize, to: usize, sums: &mut [f32])
+    requires { ⌜ (base + 52 ≤ length (now marks)) × (base + 52 ≤ length (now values)) × (from ≤ to) × (to ≤ 52) × (length (now sums) ≡ 52) ⌝ }
+    ensures same { λ _. ⌜ length (now (sums .exit)) ≡ 52 ⌝ }
+    ensures more { λ _. ⌜ Onward nan from to (λ b s. withNext s (heldAt (now (marks .entry)) (now (values .entry)) base b)) (now (sums .entry)) (now (sums .exit)) ⌝ }
+{
+    for b in from..to {
+        sums[b] = with_next(sums[b], marks[base + b], values[base + b]);
+    }
+}
+
+// A row more in the sums of every bin: in two parts, which a machine does by eights and by four.
 fn add_row(marks: &[u32], values: &[f32], base: usize, sums: &mut [f32])
     requires { ⌜ (base + 52 ≤ length (now marks)) × (base + 52 ≤ length (now values)) × (length (now sums) ≡ 52) ⌝ }
     ensures { λ _. ⌜ Each nan 52 (λ b s. withNext s (heldAt (now (marks .entry)) (now (values .entry)) base b)) (now (sums .entry)) (now (sums .exit)) ⌝ }
 {
-    for b in 0..52usize {
-        sums[b] = with_next(sums[b], marks[base + b], values[base + b]);
+    add_bins(marks, values, base, 0, 48, sums);
+    add_bins(marks, values, base, 48, 52, sums);
+}
+
+// A row more in the counts of the bins from `from` to before `to`, as in the sums.
+fn count_bins(marks: &[u32], base: usize, from: usize, to: usize, counts: &mut [u32])
+    requires { ⌜ (base + 52 ≤ length (now marks)) × (from ≤ to) × (to ≤ 52) × (length (now counts) ≡ 52)
+        × ((b : ℕ) → from ≤ b → b < 52 → getD (now counts) b 0 ≤ 25) ⌝ }
+    ensures same { λ _. ⌜ length (now (counts .exit)) ≡ 52 ⌝ }
+    ensures more { λ _. ⌜ Onward 0 from to (λ b n. n + once (eqb (getD (now (marks .entry)) (base + b) 0) 1)) (now (counts .entry)) (now (counts .exit)) ⌝ }
+{
+    for b in from..to {
+        counts[b] = count_next(counts[b], marks[base + b]);
     }
 }
 
@@ -44,9 +66,8 @@ fn count_row(marks: &[u32], base: usize, counts: &mut [u32])
     requires { ⌜ (base + 52 ≤ length (now marks)) × (length (now counts) ≡ 52) × ((b : ℕ) → b < 52 → getD (now counts) b 0 ≤ 25) ⌝ }
     ensures { λ _. ⌜ Each 0 52 (λ b n. n + once (eqb (getD (now (marks .entry)) (base + b) 0) 1)) (now (counts .entry)) (now (counts .exit)) ⌝ }
 {
-    for b in 0..52usize {
-        counts[b] = count_next(counts[b], marks[base + b]);
-    }
+    count_bins(marks, base, 0, 48, counts);
+    count_bins(marks, base, 48, 52, counts);
 }
 
 // Inside: the sums of every bin over the 25 rows, the one in place `first` (modulo 25) first.

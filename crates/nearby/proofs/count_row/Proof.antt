@@ -1,78 +1,29 @@
--- `nearby::count_row` meets its contract. The invariant: the counts passed have the row. The measure is what is left of the 52.
--- Assumes nothing.
-use Prim.Native.Nat.{ℕ, _+_, _-_, _≤_}
-use Rattle.level.specs.Rank.{once}
-use Rattle.nearby.proofs.Fill.{each-begun, each-more}
-use Rattle.nearby.specs.Inside.{Each}
+-- `nearby::count_row` meets its contract, as `add_row` does. Assumes nothing.
+use Prim.Native.Nat.{ℕ, _≤_}
+use Rattle.nearby.proofs.Fill.{each-begun}
 use borrow.Author.Needs.{needs}
-use lib.Dec.{eqb}
-use lib.ListN.{getD}
-use mathlib.Core.Path.{_≡_, subst⁻¹}
+use mathlib.Core.Path.{subst⁻¹}
 use native.Mathlib.Omega.{arith}
 use Rattle.nearby.proofs.count_row.Statement.{statement}
 use Rattle.nearby.proofs.count_row.Tie as tie
 
-abbrev Inv-loop : tie.InvT-loop
-Inv-loop marks base counts₀ b₀ counts b =
-    (b ≤ 52) × Each 0 b (λ k n. n + once (eqb (getD marks (base + k) 0) 1)) counts₀ counts
+count-bins-requires : tie.Need-count-bins-requires
+count-bins-requires c κs =
+    let pre = c .before .before .before .pre in
+    (pre .0, omega arith, omega arith, pre .1, λ b l h. pre .2 b h)
 
-abbrev μ-loop : tie.MeasureT-loop
-μ-loop marks base counts₀ b₀ counts b = 52 - b
+count-bins-requires-2 : tie.Need-count-bins-requires-2
+count-bins-requires-2 c κs =
+    let pre = c .before .before .before .before .before .before .before .pre in
+    let first = c .before .before .before .count-bins .ensures in
+    (pre .0, omega arith, omega arith, first .0, λ b l h. subst⁻¹ (λ (n : ℕ). n ≤ 25) (first .1 .rest b l) (pre .2 b h))
 
-loop-holds : tie.Need-loop-holds Inv-loop μ-loop
-loop-holds c = (omega arith, each-begun 0 _ _)
+same-length : tie.Need-same-length
+same-length c = search needs
 
-mul-count-next : tie.Need-mul-count-next Inv-loop μ-loop
-mul-count-next c = search needs
-
-slice-read-count-next : tie.Need-slice-read-count-next Inv-loop μ-loop
-slice-read-count-next c = search needs
-
-add-count-next : tie.Need-add-count-next Inv-loop μ-loop
-add-count-next c = search needs
-
-mul-count-next-2 : tie.Need-mul-count-next-2 Inv-loop μ-loop
-mul-count-next-2 c = search needs
-
-shared-slice-read-count-next : tie.Need-shared-slice-read-count-next Inv-loop μ-loop
-shared-slice-read-count-next c = search needs
-
-count-next-requires : tie.Need-count-next-requires Inv-loop μ-loop
-count-next-requires c κs =
-    let at = c .before .before .before in
-    let pre = at .before .before .before .pre in
-    subst⁻¹ (λ (n : ℕ). n ≤ 25) (at .loop .inv .1 .rest (at .loop .b) (omega arith)) (pre .2 (at .loop .b) (omega arith))
-
-mul-counts : tie.Need-mul-counts Inv-loop μ-loop
-mul-counts c = search needs
-
-slice-write-counts : tie.Need-slice-write-counts Inv-loop μ-loop
-slice-write-counts c = search needs
-
-add-b : tie.Need-add-b Inv-loop μ-loop
-add-b c = search needs
-
-loop-less : tie.Need-loop-less Inv-loop μ-loop
-loop-less c = search needs
-
-loop-again : tie.Need-loop-again Inv-loop μ-loop
-loop-again c =
-    let at = c .before .before .before .before in
-    let a = at .before .before .before .args in (
-      omega arith,
-      each-more 0 (at .loop .b) (λ k n. n + once (eqb (getD (a .marks .now) (a .base + k) 0) 1)) (a .counts .now) (at .loop .counts) _ (at .loop .inv .1) (omega arith)
-          (c .count-next .ensures),
-    )
-
-same-length : tie.Need-same-length Inv-loop μ-loop
-same-length c = c .before .loop .inv .1 .size
-
-returns : tie.Need-returns Inv-loop μ-loop
+returns : tie.Need-returns
 returns c =
-    let all : c .before .loop .b ≡ 52 = omega arith in
-    rw all at (c .before .loop .inv .1)
+    c .before .before .count-bins2 .ensures .1 .on _ (c .before .before .before .before .before .before .count-bins .ensures .1 .on _ (each-begun 0 _ (c .before .before .before .before .before .before .before .before .before .before .args .counts .now)))
 
 pub count-row-spec : {M : Type 1} → statement M
-count-row-spec =
-    tie.close
-    (tie.spec Inv-loop μ-loop loop-holds mul-count-next slice-read-count-next add-count-next mul-count-next-2 shared-slice-read-count-next count-next-requires mul-counts slice-write-counts add-b loop-less loop-again same-length returns)
+count-row-spec = tie.close (tie.spec count-bins-requires count-bins-requires-2 same-length returns)
