@@ -7,8 +7,8 @@ use ion_proved::{Kind, Mode, PLACES, Refusal, local_noise};
 fn main() -> Result<(), Refusal> {
     // Where the output comes from: the noise is 1 everywhere, heard as 0.5, and the generator's three places have 8. R1 has as many bins as a
     // symbol has values, so the strongest tone is the greatest of places 2 to 33: here 100, at one of places 4 to 13, and places 2 to 15 are
-    // missing by turns. The value in the middle of a row is 0.5, too little for a level above 1. A row with 25 about it of which k are
-    // raised has (0.5·(25-k) + 8·k)/25 - 2/5: with 5 of them 2 - 0.4, with 13 4.4 - 0.4, with all of them 8 - 0.4.
+    // missing by turns. The value in the middle of a row is 0.5, too little for a level above 1. A raised place, with 25 rows about it of
+    // which k are raised, has (0.5·(25-k) + 8·k)/25 - 2/5: with 5 of them 2 - 0.4, with 13 4.4 - 0.4, with all of them 8 - 0.4.
     let row = |i: usize| {
         let mut row = [0.5; PLACES];
         row[4 + i % 10] = 100.0;

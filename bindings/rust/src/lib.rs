@@ -782,7 +782,7 @@ pub fn soft_values(
 /// - The place's level: the mean of its z over this row, the twelve before and the twelve behind, as far as there are such rows and it is
 ///   there in them, over 1 + eps·(r - 1), less 2/√(their number). Where it is there in fewer than six of them there is none.
 ///
-/// Proved: every factor is finite and at least 1; five places are missing in every row; each root is the `f32` nearest to it.
+/// Proved: every factor is finite and at least 1; five places are missing in every row; each square root is the `f32` nearest to the true one.
 ///
 /// [`Refusal::Noise`] where there are over [`ROWS`] rows, or `eps` is not in 0 to 0.5, `r` in 1 to 1,000, a noise in 2^-20 to 10^9 or an
 /// energy in 0 to 10^9, those of places that the mode does not have among them.
@@ -799,7 +799,7 @@ pub fn soft_values(
 /// assert_eq!(factors[12][20], 7.6);
 /// assert!(factors.iter().all(|f| (0..PLACES).all(|place| f[place] == 1.0 || place == 20)));
 ///
-/// // R1 does not have place 40, but what is given for it is a number
+/// // R1 does not have place 40, but what is given for it must be in range all the same
 /// rows[24][40] = f32::NAN;
 /// assert_eq!(local_noise(Mode::R1, Kind::Data, &rows, &noise, 0.0, 1.0), Err(Refusal::Noise));
 /// assert_eq!(local_noise(Mode::R1, Kind::Data, &vec![row; ROWS + 1], &noise, 0.0, 1.0), Err(Refusal::Noise));
@@ -809,9 +809,12 @@ pub fn soft_values(
 pub fn local_noise(
     mode: Mode, kind: Kind, energies: &[[f32; PLACES]], noise: &[f32; PLACES], eps: f32, r: f32,
 ) -> Result<Vec<[f32; PLACES]>, Refusal> {
+    // no buffer for rows that are refused, of which there may be more than a u32 can count
+    if energies.len() > ROWS {
+        return Err(Refusal::Noise);
+    }
     let mut factors = vec![[0.0; PLACES]; energies.len()];
-    // rows that a u32 cannot count are told as another number than the buffers have, and refused by their length
-    let rows = energies.len().try_into().unwrap_or(u32::MAX);
+    let rows = energies.len() as u32;
     let (energies, lent) = (energies.as_flattened(), factors.as_flattened_mut());
     // SAFETY: every slice is told with its own length; the lent one cannot overlap the others.
     Refusal::told(unsafe {

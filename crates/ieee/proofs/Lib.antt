@@ -68,6 +68,12 @@
 --     of two floats at most one is below the other
 -- Order.lt→not-le : (x y : Float) → T (lt x y) → T (not (le y x))
 --     so `<` denies `<=` the other way round
+-- Order.eq→le : (x y : Float) → T (eq x y) → T (le x y)
+--     what is equal is not above
+-- Order.le-lt : (x y z : Float) → T (le x y) → T (lt y z) → T (lt x z)
+--     `<` after `<=`: what is not above a value lies below whatever that lies below
+-- Order.lt-le : (x y z : Float) → T (lt x y) → T (le y z) → T (lt x z)
+--     `<=` after `<`: ranks by counting
 -- Order.neg-le : (x y : Float) → T (le x y) → T (le (neg y) (neg x))
 --     `-x` turns the order round
 -- Order.not-nan : (x y : Float) → T (le x y) → T (not (isNan x)) × T (not (isNan y))

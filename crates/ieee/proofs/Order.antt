@@ -285,3 +285,22 @@ positive-num nan p = absurd p
 positive-num (inf s) p = absurd p
 positive-num (fin true m e) p = absurd p
 positive-num (fin false m e) p = mul-pos (ltb→lt 0 m p) (up-pos e)
+
+-- ---- `<=`, `<` and `==` together
+pub eq→le : (x y : Float) → T (eq x y) → T (le x y)
+unfolding le
+eq→le x y e = or-r (lt x y) (eq x y) e
+
+sure : (t : Bool) → (T (not t) → ⊥) → T t
+sure true h = tt
+sure false h = h tt
+
+pub le-lt : (x y z : Float) → T (le x y) → T (lt y z) → T (lt x z)
+le-lt x y z h k =
+    sure (lt x z) (λ n.
+    T-not (le z y) (lt→not-le y z k) (le-trans z x y (not-lt→le x z (not-nan x y h .0) (not-nan y z (lt→le y z k) .1) n) h))
+
+pub lt-le : (x y z : Float) → T (lt x y) → T (le y z) → T (lt x z)
+lt-le x y z h k =
+    sure (lt x z) (λ n.
+    T-not (le y x) (lt→not-le x y h) (le-trans y z x k (not-lt→le x z (not-nan x y (lt→le x y h) .0) (not-nan y z k .1) n)))

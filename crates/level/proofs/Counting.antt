@@ -15,7 +15,7 @@ use lib.Ieee.Fits.{and-l, and-r}
 use Rattle.ieee.specs.Whole.{plusZero}
 use Rattle.util.specs.Choose.{choose}
 use Rattle.util.proofs.Choose.{chosen, not-chosen}
-use Rattle.level.specs.Rank.{passes, once, countOf, thereOf, ranks, orNext, firstThat, orZero, ofRank, OfRank}
+use Rattle.level.specs.Rank.{passes, once, countOf, thereOf, ranks, orNext, firstThat, orZero, ofRank}
 
 -- the cells below n are equal
 abbrev pub Same : (ℕ → Option Float) → (ℕ → Option Float) → ℕ → Type 0
@@ -222,16 +222,6 @@ module _ (held other : ℕ → Option Float) where
   rank-same n k e =
       let tests : ranks held n k ≡ ranks other n k = fun-ext (λ x. ranks-same n k x e) in
       ap (λ (t : Float → Bool). orZero (firstThat t held n)) tests ∙ ap orZero (first-same (ranks other n k) n e)
-
-  pub of-rank-same : (n k : ℕ) (x : Float) → Same held other n → OfRank held n k x → OfRank other n k x
-  of-rank-same n k x e r =
-      record {
-        place = r .place;
-        within = r .within;
-        there = sym (e (r .place) (r .within)) ∙ r .there;
-        below = omega (arith, count-same (λ y. lt y x) n e);
-        not-above = omega (arith, count-same (λ y. le y x) n e);
-      }
 
 -- ---- ranks
 -- the test and what it says

@@ -4,20 +4,18 @@ use Prim.Native.Nat.{ℕ, _+_, _≤_, _<_}
 use mathlib.Core.Bool.{Bool, true, false, not, _&&_, _||_, and-false, true≢false}
 use mathlib.Core.List.{List}
 use mathlib.Core.Option.{Option}
-use mathlib.Core.Path.{_≡_, refl, sym, ap, ap₂, subst, _∙_}
+use mathlib.Core.Path.{_≡_, refl, sym, ap, subst, _∙_}
 use native.Mathlib.Omega.{arith}
-use borrow.Author.Tests.{eqb-true, le-leb, lt-leb, lt-ltb, le-ltb}
+use borrow.Author.Tests.{eqb-true, lt-leb, le-ltb}
 use lib.Dec.{T, eqb, leb, ltb}
 use lib.ListN.{getD}
 use lib.Ieee.{Float, nan, inf, fin, lt, le}
 use Rattle.util.specs.Choose.{choose}
 use Rattle.util.proofs.Choose.{by-case}
-use Rattle.util.proofs.Some.{neither}
-use Rattle.ieee.proofs.Order.{le-trans}
+use Rattle.ieee.proofs.Order.{le-trans, lt-le}
 use Rattle.level.specs.Rank.{passes, countOf, ranks}
 use Rattle.level.specs.Inside.{heldAt, Fenced, Side}
-use Rattle.level.proofs.Counting.{count-mono}
-use Rattle.level.proofs.Found.{lt-le}
+use Rattle.level.proofs.Counting.{count-mono, ranks-holds}
 use Rattle.level.proofs.Turns.{held-is, held-not}
 
 -- ---- by the two counts
@@ -29,10 +27,6 @@ module _ (held : ℕ → Option Float) (n k : ℕ) (x : Float) where
   too-low : countOf (λ y. le y x) held n ≤ k → ranks held n k x ≡ false
   unfolding ranks
   too-low h = ap (λ (t : Bool). leb (countOf (λ y. lt y x) held n) k && t) (le-ltb k _ h) ∙ and-false (leb (countOf (λ y. lt y x) held n) k)
-
-  just-so : countOf (λ y. lt y x) held n ≤ k → k < countOf (λ y. le y x) held n → ranks held n k x ≡ true
-  unfolding ranks
-  just-so h l = ap₂ _&&_ (le-leb _ k h) (lt-ltb k _ l)
 
 module _ (held : ℕ → Option Float) (n k : ℕ) (x y : Float) where
   under : countOf (λ z. le z x) held n ≤ k → le y x ≡ true → ranks held n k y ≡ false
@@ -102,7 +96,7 @@ module _ (marks : List ℕ) (values : List Float) (base n k b : ℕ) where
 
     pub lies-there : countOf (λ y. lt y x) held n ≤ k → k < countOf (λ y. le y x) held n → Side marks values base n k b 1
     lies-there h l = record {
-      here = λ z. held-is (ranks held n k) marks values base b there ∙ just-so held n k x h l;
+      here = λ z. held-is (ranks held n k) marks values base b there ∙ ranks-holds held n k x h l;
       not-here = λ z. absurd (z refl);
       low = λ z. absurd (omega arith);
       high = λ z. absurd (omega arith);

@@ -9,7 +9,6 @@ use native.Mathlib.Omega.{arith}
 use lib.Dec.{leb}
 use lib.Ieee.{Float}
 use borrow.Author.Tests.{le-leb, lt-leb, leb-true, leb-false}
-use Rattle.util.specs.Choose.{choose}
 use Rattle.util.proofs.Choose.{chosen, not-chosen}
 use Rattle.level.specs.Row.{isAround, heldOf}
 use Rattle.level.specs.Rank.{passes, countOf, thereOf}
@@ -56,11 +55,6 @@ module _ (row : ℕ → Float) (e b : ℕ) where
     | inl h ↦ absurd (Option·none-ne-some x (sym (missing-is (h .0) (h .1)) ∙ c))
     | inr h ↦ (some-inj (sym c ∙ there-is h), h)
   ]
-
--- of rows that are equal at a bin the same is held there
-pub held-same : (row other : ℕ → Float) (e b : ℕ) → row b ≡ other b → heldOf row e b ≡ heldOf other e b
-unfolding heldOf
-held-same row other e b h = ap (λ (x : Float). choose (isAround e b) none (some x)) h
 
 -- the count of those that are there passes over the missing
 counted : (row : ℕ → Float) (e b : ℕ) → (b + 2 < e) ⊎ (e + 2 < b) → passes (λ x. true) (heldOf row e b) ≡ true

@@ -10,7 +10,7 @@ use lib.Dec.{T, T-not, not-T}
 use lib.Ieee.{Float, lt, le, eq, isNan}
 use lib.Ieee.Bits.{is-true}
 use Rattle.ieee.proofs.Integers.{by-test}
-use Rattle.ieee.proofs.Order.{le-refl, le-trans, lt→le, not-lt→le, le→not-lt, lt→not-le, not-nan, le-le→eq}
+use Rattle.ieee.proofs.Order.{le-refl, lt→le, not-lt→le, le→not-lt, le-le→eq, le-lt, lt-le}
 use Rattle.level.specs.Rank.{countOf, thereOf, ranks, firstThat, orZero, ofRank, OfRank}
 use Rattle.level.proofs.Counting.{count-mono, count-there, count-missing, count-fails, count-passes, count-by-one, count-grows}
 use Rattle.level.proofs.Counting.{first-is, first-none, ranks-is, ranks-holds}
@@ -20,25 +20,11 @@ abbrev pub NoNan : (ℕ → Option Float) → ℕ → Type 0
 NoNan held n = (b : ℕ) (x : Float) → b < n → held b ≡ some x → T (not (isNan x))
 
 -- ---- what a test's answer is, from what it would say
-sure : (t : Bool) → (T (not t) → ⊥) → T t
-sure true h = tt
-sure false h = h tt
-
 is-false : (t : Bool) → (T t → ⊥) → t ≡ false
 is-false true h = absurd (h tt)
 is-false false h = refl
 
--- ---- the order of floats: `<=` and `<` together
-pub le-lt : (x y z : Float) → T (le x y) → T (lt y z) → T (lt x z)
-le-lt x y z h k =
-    sure (lt x z) (λ n.
-    T-not (le z y) (lt→not-le y z k) (le-trans z x y (not-lt→le x z (not-nan x y h .0) (not-nan y z (lt→le y z k) .1) n) h))
-
-pub lt-le : (x y z : Float) → T (lt x y) → T (le y z) → T (lt x z)
-lt-le x y z h k =
-    sure (lt x z) (λ n.
-    T-not (le y x) (lt→not-le x y h) (le-trans y z x k (not-lt→le x z (not-nan x y (lt→le x y h) .0) (not-nan y z k .1) n)))
-
+-- ---- counts of lesser and of greater values
 -- what lies below x lies below v, where x is below v; what is not above v lies below x, where v is below x
 below-below : (held : ℕ → Option Float) (n : ℕ) (x v : Float) → T (lt x v) → countOf (λ y. lt y x) held n ≤ countOf (λ y. lt y v) held n
 below-below held n x v h = count-mono (λ y. lt y x) (λ y. lt y v) held n (λ y p. lt-le y x v p (lt→le x v h))

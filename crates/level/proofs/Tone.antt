@@ -13,10 +13,9 @@ use Rattle.util.specs.Choose.{choose}
 use Rattle.util.proofs.Choose.{by-case}
 use Rattle.frame.specs.Air.{binOf, placeOf}
 use Rattle.frame.proofs.Air.{bin-below}
-use Rattle.ieee.proofs.Order.{le-refl, le-trans, lt→le, not-lt→le}
+use Rattle.ieee.proofs.Order.{le-refl, le-trans, lt→le, not-lt→le, le-lt}
 use Rattle.level.specs.Row.{stronger, strongestTo, strongestOf, Strongest, heldOf}
 use Rattle.level.specs.Rank.{thereOf}
-use Rattle.level.proofs.Found.{le-lt}
 use Rattle.level.proofs.Five.{five}
 
 -- ---- one place more

@@ -2,23 +2,23 @@
 use Prim.Native.Nat.{ℕ, _+_, _-_, _≤_, _<_}
 use mathlib.Core.Bool.{Bool, true, false, _&&_, true≢false}
 use mathlib.Core.List.{List}
-use mathlib.Core.Option.{Option, none, some}
+use mathlib.Core.Option.{none, some}
 use mathlib.Core.Path.{_≡_, refl, sym, ap, ap₂, _∙_}
 use native.Mathlib.Omega.{arith}
 use lib.Dec.{eqb}
 use native.Mathlib.Nat.{ne-of-gt}
 use borrow.Author.Count.{below-more}
-use lib.ListN.{length, getD, set, length-set}
+use lib.ListN.{length, getD, set, length-set, replicate, getD-replicate}
 use lib.Seq.{getD-set-other}
 use Rattle.util.proofs.Choose.{chosen, not-chosen}
 use Rattle.util.proofs.Fill.{up-done}
 use lib.Ieee.{Float, nan, lt}
 use Rattle.util.specs.Choose.{choose}
-use Rattle.level.specs.Row.{stronger, strongestTo, isAround}
+use Rattle.level.specs.Row.{stronger, strongestTo}
 use Rattle.level.specs.Rank.{passes, once, countOf}
 use Rattle.level.proofs.Counting.{count-further}
 use Rattle.level.proofs.Tone.{strongest-turn}
-use Rattle.level.specs.Inside.{markOf, heldAt}
+use Rattle.level.specs.Inside.{heldAt}
 
 -- a bin by its mark and its value
 pub held-passes : (test : Float → Bool) (marks : List ℕ) (values : List Float) (base b : ℕ)
@@ -69,22 +69,30 @@ module _ (test : Float → Bool) (marks : List ℕ) (values : List Float) (base 
   pub held-not : eqb (getD marks (base + b) 0) 1 ≡ false → passes test (heldAt marks values base b) ≡ false
   held-not t = sym (held-passes test marks values base b) ∙ ap (λ (u : Bool). u && test (getD values (base + b) nan)) t
 
--- ---- marks: the bins passed have theirs, the others are 1
+-- ---- a list of 52 begun with one value: the places passed have theirs, the others are as begun
+pub record Passed {A : Type 0} (d begun : A) (f : ℕ → A) (b : ℕ) (out : List A) : Type 0 where
+  pub size : length out ≡ 52
+  pub done : (k : ℕ) → k < b → getD out k d ≡ f k
+  pub rest : (k : ℕ) → b ≤ k → k < 52 → getD out k d ≡ begun
 
-abbrev pub Passed : ℕ → ℕ → List ℕ → Type 0
-Passed e b out =
-    (length out ≡ 52) × ((k : ℕ) → k < b → getD out k 0 ≡ markOf e k) × ((k : ℕ) → b ≤ k → k < 52 → getD out k 0 ≡ 1)
+module _ {A : Type 0} (d begun : A) (f : ℕ → A) where
+  pub passed-none : Passed d begun f 0 (replicate 52 begun)
+  passed-none = record { size = refl; done = λ k h. absurd (omega arith); rest = λ k l h. getD-replicate 52 k begun d h }
 
-pub marked-out : (e b : ℕ) (out : List ℕ) → b < 52 → Passed e b out → isAround e b ≡ true → Passed e (b + 1) (set out b 0)
-marked-out e b out h (size, done, rest) t = (
-  length-set out b 0 ∙ size,
-  up-done out b 0 0 (markOf e) (omega arith) (sym (chosen 0 1 t)) done,
-  λ k l m. let far : b < k = omega arith in getD-set-other out b k 0 0 (ne-of-gt far) ∙ rest k (omega arith) m,
-)
+  -- a place written
+  pub passed-more : (b : ℕ) (out : List A) (v : A) → b < 52 → v ≡ f b → Passed d begun f b out → Passed d begun f (b + 1) (set out b v)
+  passed-more b out v h e p =
+      record {
+        size = length-set out b v ∙ p .size;
+        done = up-done out b v d f (omega (arith, p .size)) e (p .done);
+        rest = λ k l m. let far : b < k = omega arith in getD-set-other out b k v d (ne-of-gt far) ∙ p .rest k (omega arith) m;
+      }
 
-pub marked-in : (e b : ℕ) (out : List ℕ) → b < 52 → Passed e b out → isAround e b ≡ false → Passed e (b + 1) out
-marked-in e b out h (size, done, rest) t = (
-  size,
-  below-more (λ (k : ℕ). getD out k 0 ≡ markOf e k) b done (rest b (omega arith) h ∙ sym (not-chosen 0 1 t)),
-  λ k l m. rest k (omega arith) m,
-)
+  -- a place left as it was begun
+  pub passed-left : (b : ℕ) (out : List A) → b < 52 → begun ≡ f b → Passed d begun f b out → Passed d begun f (b + 1) out
+  passed-left b out h e p =
+      record {
+        size = p .size;
+        done = below-more (λ (k : ℕ). getD out k d ≡ f k) b (p .done) (p .rest b (omega arith) h ∙ e);
+        rest = λ k l m. p .rest k (omega arith) m;
+      }

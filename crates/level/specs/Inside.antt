@@ -30,7 +30,8 @@ pub record Fenced (held : ℕ → Option Float) (n k : ℕ) (low high : Float) :
   pub under : (x : Float) → le x low ≡ true → ranks held n k x ≡ false
   pub over : (x : Float) → le high x ≡ true → ranks held n k x ≡ false
 
--- what a number tells of bin b: 1 that it has rank k, any other that it has not; 2 that no lesser value has, 3 that no greater one has
+-- what a number tells of bin b: 1 that it has rank k, any other that it has not; 2 that no value up to its own has, 3 that none
+-- from its own on has
 pub record Side (marks : List ℕ) (values : List Float) (base n k b r : ℕ) : Type 0 where
   pub here : r ≡ 1 → passes (ranks (heldAt marks values base) n k) (heldAt marks values base b) ≡ true
   pub not-here : (r ≡ 1 → ⊥) → passes (ranks (heldAt marks values base) n k) (heldAt marks values base b) ≡ false

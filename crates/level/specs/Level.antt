@@ -22,12 +22,12 @@ unfoldable pub ln2 : Float
 unfolding ofBits
 ln2 = ofBits binary32 0x3f317218
 
--- from the median: its mean, less three standard errors of it, not below 1
+-- from the median: the mean that it tells, less 3/√m (two standard errors of a median, each 1.5/√m of the mean), not below 1
 unfoldable pub levelFrom : Float → Float → Float
 levelFrom median less = larger (sub binary32 (div binary32 median ln2) less) one
 
--- of n bins the m that are there: with fewer than 8 the level is 1 (which never is so here: proofs/Five.antt), else it is
--- made of the value of rank m/2
+-- of n bins the m that are there: with fewer than 8 the level is 1 (which is so in no row of a burst: noise
+-- `Least.all-but-five`), else it is made of the value of rank m/2
 unfoldable pub levelOf : (ℕ → Option Float) → ℕ → Float
 levelOf held n =
     let m = thereOf held n in

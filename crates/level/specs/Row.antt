@@ -19,7 +19,7 @@ ratioOf energies noise i b = div binary32 (getD energies (52 * i + b) nan) (getD
 abbrev pub stronger : (ℕ → Float) → ℕ → ℕ → ℕ
 stronger row e f = choose (lt (row e) (row f)) f e
 
--- the strongest of place 0, place 1 and so on to place n
+-- the strongest of the places that `place` gives for 0 to n
 unfoldable pub strongestTo : (ℕ → Float) → (ℕ → ℕ) → ℕ → ℕ
 strongestTo row place zero = place 0
 strongestTo row place (suc n) = stronger row (strongestTo row place n) (place (suc n))

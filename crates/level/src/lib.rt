@@ -122,7 +122,8 @@ fn not_above(marks: &[u32], row: &[f32], base: usize, read: usize, x: f32) -> u3
     n
 }
 
-// Whether a bin need not be tried: it is missing, or lies where no value has the rank. (Nothing compares with a NaN.)
+// Whether a bin need not be tried: it is missing, or lies at or beyond a fence, where no value has the rank. A fence that is not set
+// yet is a NaN, which nothing lies below or above; no bin is one.
 fn is_fenced(mark: u32, low: f32, high: f32, x: f32) -> bool
     ensures { λ r. ⌜ r ≡ (not (eqb mark 1) || (le x low || le high x)) ⌝ }
 {
@@ -135,8 +136,8 @@ fn is_fenced(mark: u32, low: f32, high: f32, x: f32) -> bool
     high <= x
 }
 
-// Of bin b: 1 where it is there and has rank k, from 0, among those of the row that are there; else 2 where it lies too low, 3 where it
-// lies too high, and 0 where that is known without counting, by values that were tried.
+// Of bin b: 1 where it is there and has rank k, from 0, among those of the row that are there; 2 where it lies too low, 3 where it lies
+// too high; 0 where it is missing, or where the fences tell without counting that it has not.
 fn side_of(
     marks: &[u32],
     row: &[f32],
@@ -170,8 +171,8 @@ fn pick(test: bool, x: f32, y: f32) -> f32
     if test { x } else { y }
 }
 
-// The value of rank k among a row's bins that are there: the first of them that has it. (One has: proofs/Found.antt.) What was tried and
-// lay too low, or too high, fences off what need not be.
+// The value of rank k among a row's bins that are there: the first of them that has it. (One has: proofs/Found.antt.) A value that was
+// tried and lay too low, or too high, is a fence: what lies beyond it need not be tried.
 fn of_rank(marks: &[u32], row: &[f32], base: usize, read: usize, k: u32) -> f32
     requires { ⌜ Row (now marks) (now row) base read ⌝ }
     ensures { λ r. ⌜ r ≡ ofRank (heldAt (now (marks .entry)) (now (row .entry)) base) read k ⌝ }
@@ -190,7 +191,7 @@ fn of_rank(marks: &[u32], row: &[f32], base: usize, read: usize, k: u32) -> f32
     0.0
 }
 
-// Inside: a row's level by its value of rank k, `less` being three standard errors: not below 1.
+// Inside: a row's level by its value of rank k, `less` being what is taken off it (3/√m): not below 1.
 pub fn level(marks: &[u32], row: &[f32], base: usize, read: usize, k: u32, less: f32) -> f32
     requires { ⌜ Row (now marks) (now row) base read ⌝ }
     ensures { λ r. ⌜ r ≡ levelFrom (ofRank (heldAt (now (marks .entry)) (now (row .entry)) base) read k) less ⌝ }

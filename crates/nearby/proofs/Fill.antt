@@ -7,21 +7,18 @@ use native.Mathlib.Omega.{arith}
 use borrow.Author.Count.{below-more}
 use lib.ListN.{length, getD, set, length-set}
 use lib.Seq.{getD-set-same, getD-set-other}
+use Rattle.util.proofs.Fill.{row-begun, row-more}
 use Rattle.nearby.specs.Inside.{Put, Each, Onward}
 
 module _ {A : Type 0} (d : A) where
   pub put-begun : (base : ℕ) (row : ℕ → A) (l : List A) → Put d 0 base row l l
-  put-begun base row l = record { size = refl; done = λ k h. absurd (not-suc-le-zero h); before = λ k h. refl; after = λ k h. refl }
+  put-begun base row l = record { stored = row-begun d base row l; after = λ k h. refl }
 
   pub put-more : (w base : ℕ) (row : ℕ → A) (was l : List A) (v : A) → Put d w base row was l → base + w < length was → v ≡ row w
       → Put d (w + 1) base row was (set l (base + w) v)
   put-more w base row was l v s h e =
       record {
-        size = length-set l (base + w) v ∙ s .size;
-        done = below-more (λ (k : ℕ). getD (set l (base + w) v) (base + k) d ≡ row k) w
-            (λ k p. let q : base + k < base + w = omega arith in getD-set-other l (base + w) (base + k) v d (ne-of-lt q) ∙ s .done k p)
-            (getD-set-same l (base + w) v d (omega (arith, s .size)) ∙ e);
-        before = λ k p. let q : k < base + w = omega arith in getD-set-other l (base + w) k v d (ne-of-lt q) ∙ s .before k p;
+        stored = row-more d w base row was l v (s .stored) h e;
         after = λ k p. let q : base + w < k = omega arith in getD-set-other l (base + w) k v d (ne-of-gt q) ∙ s .after k (omega arith);
       }
 
@@ -40,9 +37,6 @@ module _ {A : Type 0} (d : A) where
       }
 
   -- one place more
-  pub onward-none : (w : ℕ) (f : ℕ → A → A) (l : List A) → Onward d w w f l l
-  onward-none w f l = record { on = λ first e. e; rest = λ k h. refl }
-
   pub onward-more : (from w : ℕ) (f : ℕ → A → A) (was l : List A) (v : A) → Onward d from w f was l → length l ≡ length was → w < length was
       → v ≡ f w (getD l w d) → Onward d from (w + 1) f was (set l w v)
   onward-more from w f was l v o size h e =

@@ -5,15 +5,14 @@ use mathlib.Core.Option.{Option}
 use mathlib.Core.Path.{_≡_}
 use lib.ListN.{length, getD}
 use lib.Ieee.{Float, nan}
+use Rattle.util.specs.Table.{Stored}
 use Rattle.level.specs.Rank.{thereOf}
 use Rattle.level.specs.Inside.{heldAt}
 use Rattle.nearby.specs.Sum.{sumOf}
 
--- w places from base on hold row, and every other is as it was (d stands past the end)
+-- w places from base on hold row, and every other is as it was, behind them too
 pub record Put {A : Type 0} (d : A) (w base : ℕ) (row : ℕ → A) (was new : List A) : Type 0 where
-  pub size : length new ≡ length was
-  pub done : (k : ℕ) → k < w → getD new (base + k) d ≡ row k
-  pub before : (k : ℕ) → k < base → getD new k d ≡ getD was k d
+  pub stored : Stored d w base row was new
   pub after : (k : ℕ) → base + w ≤ k → getD new k d ≡ getD was k d
 
 -- the first w of a list went through a function of their place, and every other is as it was
@@ -31,8 +30,7 @@ pub record Onward {A : Type 0} (d : A) (from to : ℕ) (f : ℕ → A → A) (wa
 abbrev pub placed : List ℕ → List Float → ℕ → ℕ → Option Float
 placed marks values n b = heldAt marks values (52 * (n % 25)) b
 
--- The 25 places hold the 25 rows from n on. Rows are numbered from 25 before the first heard, which has number 25: what is
--- in no place yet is missing.
+-- The 25 places hold the 25 rows from n on. Row 0 has number 25, so that the rows before it have numbers too: those are missing.
 pub record Nearby (row : ℕ → ℕ → Option Float) (n : ℕ) (marks : List ℕ) (values : List Float) : Type 0 where
   pub marks-long : length marks ≡ 1300
   pub values-long : length values ≡ 1300

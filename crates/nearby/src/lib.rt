@@ -40,7 +40,7 @@ fn add_bins(marks: &[u32], values: &[f32], base: usize, from: usize, to: usize, 
     }
 }
 
-// A row more in the sums of every bin: in two parts, which a machine does by eights and by four.
+// A row more in the sums of every bin: 48 and 4, so that a compiler can take eight at a time, and four.
 fn add_row(marks: &[u32], values: &[f32], base: usize, sums: &mut [f32])
     requires { ⌜ (base + 52 ≤ length (now marks)) × (base + 52 ≤ length (now values)) × (length (now sums) ≡ 52) ⌝ }
     ensures { λ _. ⌜ Each nan 52 (λ b s. withNext s (heldAt (now (marks .entry)) (now (values .entry)) base b)) (now (sums .entry)) (now (sums .exit)) ⌝ }
@@ -88,8 +88,8 @@ pub fn counts(marks: &[u32], first: usize) -> [u32; 52]
     ensures { λ r. ⌜ ((values : List Float) → Counted (now (marks .entry)) values first 25 r) ⌝ }
 {
     let mut out = [0u32; 52];
-    for k in 0..25usize {
-        count_row(marks, 52 * ((first + k) % 25), &mut out);
+    for n in 0..25usize {
+        count_row(marks, 52 * ((first + n) % 25), &mut out);
     }
     out
 }

@@ -16,7 +16,7 @@ use Rattle.frame.specs.Format.{named}
 use Rattle.ieee.specs.Whole.{plusZero}
 use Rattle.ieee.specs.Within.{Within}
 use Rattle.level.specs.Level.{one}
-use Rattle.noise.specs.Entry.{Asked, billion, millionth, half, thousand, outside, sizes, outOfRange, noiseAnswer}
+use Rattle.noise.specs.Entry.{Asked, billion, leastNoise, half, thousand, outside, sizes, outOfRange, noiseAnswer}
 
 -- ---- what each test leaves
 -- a value that is not outside a range is within it
@@ -41,7 +41,7 @@ record InRange (rows : ℕ) (eps r : Float) (noise energies : List Float) : Type
   few : rows ≤ 2048
   part : Within plusZero half eps
   ratio : Within one thousand r
-  noises : someOf (outside millionth billion) noise ≡ false
+  noises : someOf (outside leastNoise billion) noise ≡ false
   heard : someOf (outside plusZero billion) energies ≡ false
 
 in-range : (rows : ℕ) (eps r : Float) (noise energies : List Float) → outOfRange rows eps r noise energies ≡ false → InRange rows eps r noise energies
@@ -50,7 +50,7 @@ in-range rows eps r noise energies e =
     let first = neither (ltb 2048 rows) _ e in
     let second = neither (outside plusZero half eps) _ (first .1) in
     let third = neither (outside one thousand r) _ (second .1) in
-    let fourth = neither (someOf (outside millionth billion) noise) _ (third .1) in
+    let fourth = neither (someOf (outside leastNoise billion) noise) _ (third .1) in
     record {
       few = ltb-false 2048 rows (first .0);
       part = inside plusZero half eps (second .0);
@@ -68,7 +68,7 @@ pub record Accepted (a : Asked) (lent : ℕ) : Type 0 where
   pub factors-long : lent ≡ 52 * a .heard .rows
   pub eps-in : Within plusZero half (a .eps)
   pub r-in : Within one thousand (a .r)
-  pub noise-in : (b : ℕ) → b < 52 → Within millionth billion (getD (a .heard .noise) b nan)
+  pub noise-in : (b : ℕ) → b < 52 → Within leastNoise billion (getD (a .heard .noise) b nan)
   pub energy-in : (k : ℕ) → k < 52 * a .heard .rows → Within plusZero billion (getD (a .heard .energies) k nan)
 
 pub accepted-all : (a : Asked) (lent : ℕ) → noiseAnswer a lent ≡ accepted tt → Accepted a lent
@@ -90,6 +90,6 @@ accepted-all a lent e =
       factors-long = long .2;
       eps-in = ranges .part;
       r-in = ranges .ratio;
-      noise-in = λ b k. all-inside millionth billion (h .noise) (ranges .noises) b (omega (arith, long .1));
+      noise-in = λ b k. all-inside leastNoise billion (h .noise) (ranges .noises) b (omega (arith, long .1));
       energy-in = λ k l. all-inside plusZero billion (h .energies) (ranges .heard) k (omega (arith, long .0));
     }

@@ -4,23 +4,24 @@ use mathlib.Core.Bool.{true}
 use mathlib.Core.List.{List}
 use mathlib.Core.Logic.{⊎-elim}
 use mathlib.Core.Path.{_≡_, refl, sym, ap, ap₂, _∙_}
-use native.Mathlib.Nat.{ne-of-lt, ne-of-gt}
+use native.Mathlib.Nat.{ne-of-lt}
 use native.Mathlib.Omega.{arith}
 use borrow.Author.Count.{below-more}
 use borrow.Author.Tests.{leb-true, lt-ltb, le-ltb}
 use lib.Dec.{leb, ltb, lit<}
 use lib.IntN.{pos}
-use lib.ListN.{length, getD, set, length-set, replicate, getD-replicate}
+use lib.ListN.{length, getD, set}
 use lib.Seq.{getD-set-same, getD-set-other}
 use lib.Ieee.{Float, nan, binary32, ofInt, sub, div}
 use Rattle.util.specs.Choose.{choose}
 use Rattle.util.proofs.Choose.{chosen, not-chosen, choose-same}
 use Rattle.util.specs.Table.{rows}
-use Rattle.util.proofs.Fill.{below-or-not, up-done, rows-more, rows-at}
+use Rattle.util.proofs.Fill.{below-or-not, rows-more, rows-at}
 use Rattle.ieee.specs.Within.{larger}
 use Rattle.level.specs.Rank.{thereOf, ofRank}
 use Rattle.level.specs.Level.{one, levelFrom, levelOf}
 use Rattle.level.specs.Inside.{heldAt}
+use Rattle.level.proofs.Turns.{Passed}
 use Rattle.level.proofs.Counting.{count-same, count-most, rank-same}
 use Rattle.nearby.specs.Sum.{sumOf}
 use Rattle.nearby.specs.Inside.{Put, placed, Summed, Counted}
@@ -45,24 +46,8 @@ errors-more out c v inside e rest k l h =
     below-more (λ (k : ℕ). 1 ≤ k → getD (set out c v) k nan ≡ twoErrors k) c
     (λ k h l. getD-set-other out c k v nan (ne-of-lt h) ∙ rest k l h) (λ l. getD-set-same out c v nan inside ∙ e) k h l
 
--- ---- a row of factors: the bins passed have theirs, the others are 1
-pub record Passed (f : ℕ → Float) (b : ℕ) (out : List Float) : Type 0 where
-  pub size : length out ≡ 52
-  pub done : (k : ℕ) → k < b → getD out k nan ≡ f k
-  pub rest : (k : ℕ) → b ≤ k → k < 52 → getD out k nan ≡ one
-
-pub passed-none : (f : ℕ → Float) → Passed f 0 (replicate 52 one)
-passed-none f = record { size = refl; done = λ k h. absurd (omega arith); rest = λ k l h. getD-replicate 52 k one nan h }
-
-pub passed-more : (f : ℕ → Float) (b : ℕ) (out : List Float) (v : Float) → b < 52 → v ≡ f b → Passed f b out → Passed f (b + 1) (set out b v)
-passed-more f b out v h e p =
-    record {
-      size = length-set out b v ∙ p .size;
-      done = up-done out b v nan f (omega (arith, p .size)) e (p .done);
-      rest = λ k l m. let far : b < k = omega arith in getD-set-other out b k v nan (ne-of-gt far) ∙ p .rest k (omega arith) m;
-    }
-
-pub passed-all : (f : ℕ → Float) (read : ℕ) (out : List Float) → Passed f read out → (b : ℕ) → b < 52 → getD out b nan ≡ choose (ltb b read) (f b) one
+-- ---- a row of factors, 1 beyond the bins that are read
+pub passed-all : (f : ℕ → Float) (read : ℕ) (out : List Float) → Passed nan one f read out → (b : ℕ) → b < 52 → getD out b nan ≡ choose (ltb b read) (f b) one
 passed-all f read out p b h =
     ⊎-elim (λ l. p .done b l ∙ sym (chosen (f b) one (lt-ltb b read l))) (λ l. p .rest b l h ∙ sym (not-chosen (f b) one (le-ltb b read l)))
     (below-or-not b read)
@@ -113,5 +98,5 @@ module _ (a : Burst) (i : ℕ) (marks : List ℕ) (values : List Float) (read : 
 pub rows-made : (a : Burst) (empty : Float) (i : ℕ) (was new : List Float) → Put nan 52 (52 * i) (factorAt a empty i) was new
     → ((k : ℕ) → k < 52 * i → getD was k nan ≡ rows 52 (factorAt a empty) k) → (k : ℕ) → k < 52 * (i + 1) → getD new k nan ≡ rows 52 (factorAt a empty) k
 rows-made a empty i was new put before =
-    rows-more nan 52 i (rows 52 (factorAt a empty)) (factorAt a empty i) was new (record { size = put .size; done = put .done; kept = put .before })
+    rows-more nan 52 i (rows 52 (factorAt a empty)) (factorAt a empty i) was new (put .stored)
     (λ k h. sym (rows-at 52 i k (factorAt a empty) h)) before

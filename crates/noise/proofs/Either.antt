@@ -1,7 +1,7 @@
 -- Which of several values of the middle rank is taken does not matter: of two that are equal the same level is made, though one be -0.0 and the
 -- other 0.0. Assumes nothing.
 use Prim.Native.Nat.{ℕ, _-_, _/_, _<_}
-use mathlib.Core.Bool.{Bool, true, false, not, _||_, cond}
+use mathlib.Core.Bool.{Bool, true, false, not, cond}
 use mathlib.Core.Option.{some}
 use mathlib.Core.Path.{_≡_, refl, sym, ap, subst, _∙_}
 use native.Mathlib.Omega.{arith}
@@ -16,19 +16,19 @@ use Rattle.util.specs.Refusal.{accepted}
 use Rattle.util.proofs.Choose.{not-chosen}
 use Rattle.ieee.specs.Whole.{plusZero, isZero}
 use Rattle.ieee.specs.Within.{Within}
-use Rattle.ieee.proofs.Order.{cross→le, le-trans}
+use Rattle.ieee.proofs.Order.{cross→le, le-trans, eq→le, le-lt}
 use Rattle.ieee.proofs.Values.{equal}
 use Rattle.ieee.proofs.Intervals.{point, sub-in, div-in, widen}
 use Rattle.root.specs.Root.{rootOf}
 use Rattle.level.specs.Row.{ratioOf}
 use Rattle.level.specs.Rank.{thereOf, ofRank, OfRank}
 use Rattle.level.specs.Level.{one, three, ln2, levelFrom, levelOf}
-use Rattle.level.proofs.Found.{le-lt, one-value}
+use Rattle.level.proofs.Found.{one-value}
 use Rattle.level.proofs.Five.{there-only}
 use Rattle.noise.specs.Local.{Burst, readOf, ratios, tone, held}
 use Rattle.noise.specs.Entry.{Asked, noiseAnswer}
 use Rattle.noise.proofs.Accepted.{Accepted, accepted-all}
-use Rattle.noise.proofs.Least.{quarter, held-in, no-nan, read-most, all-but-five, three-errors-in, sound}
+use Rattle.noise.proofs.Least.{quarter, held-in, no-nan, read-most, all-but-five, median-errors-in, sound}
 
 -- ---- either zero
 -- less a quarter or more, a median of 0 is below 1: the level is 1
@@ -58,14 +58,6 @@ minus-below (fin true m e) h = cross→le (fin true m e) plusZero tt tt (omega a
 not-minus : (x : Float) → T (not (le x plusZero)) → T (not (isZero true x))
 not-minus x n = not-T (isZero true x) (λ z. T-not (le x plusZero) n (minus-below x z))
 
-or-second : (a b : Bool) → T b → T (a || b)
-or-second true b t = tt
-or-second false b t = t
-
-equal-le : (x y : Float) → T (eq x y) → T (le x y)
-unfolding le
-equal-le x y e = or-second (lt x y) (eq x y) e
-
 -- both are 0, or they are one value
 same-level : (x y less : Float) → T (fits binary32 x) → T (fits binary32 y) → T (le plusZero x) → T (le plusZero y) → T (eq x y) → T (eq y x)
     → Within quarter three less → levelFrom x less ≡ levelFrom y less
@@ -75,11 +67,11 @@ same-level x y less p q X Y e f L = by (le x plusZero) refl
     by true z =
         let low : T (le x plusZero) = subst T (sym z) tt in
         zero-level x less (record { from = X; to = low }) L
-        ∙ sym (zero-level y less (record { from = Y; to = le-trans y x plusZero (equal-le y x f) low }) L)
+        ∙ sym (zero-level y less (record { from = Y; to = le-trans y x plusZero (eq→le y x f) low }) L)
     by false z =
         let high : T (not (le x plusZero)) = subst (λ (t : Bool). T (not t)) (sym z) tt in
         let also : T (not (le y plusZero)) =
-        not-T (le y plusZero) (λ u. T-not (le x plusZero) high (le-trans x y plusZero (equal-le x y e) u)) in
+        not-T (le y plusZero) (λ u. T-not (le x plusZero) high (le-trans x y plusZero (eq→le x y e) u)) in
         ap (λ (v : Float). levelFrom v less) (equal binary32 x y p q (not-minus x high) (not-minus y also) e)
 
 -- ---- of a row
@@ -120,7 +112,7 @@ level-of-any a lent e i x h r =
     let count : thereOf (held b i) n ≡ m = omega (arith, all-but-five b i) in
     let less = div binary32 three (rootOf m) in
     let row = sound a lent e i h in
-    let errors : Within quarter three less = widen quarter three (three-errors-in m (omega arith) (omega arith)) tt in
+    let errors : Within quarter three less = widen quarter three (median-errors-in m (omega arith) (omega arith)) tt in
     ap (λ (c : ℕ). choose (ltb c 8) one (levelFrom (ofRank (held b i) n (c / 2)) (div binary32 three (rootOf c)))) count
     ∙ not-chosen one (levelFrom (ofRank (held b i) n (m / 2)) less) (le-ltb m 8 (omega arith))
     ∙ either a lent e i (m / 2) (ofRank (held b i) n (m / 2)) x less h (row .median) r errors

@@ -40,7 +40,7 @@ use Rattle.level.proofs.Tone.{strongest-is, strongest-five}
 use Rattle.nearby.specs.Sum.{withNext, sumOf}
 use Rattle.noise.specs.Local.{Burst, binsOf, readOf, ratios, tone, held, around}
 use Rattle.noise.specs.Local.{emptyMean, two, twoErrors, binLevel, factorFrom, factorAt, factorsOf}
-use Rattle.noise.specs.Entry.{Asked, billion, millionth, half, thousand, noiseAnswer, factorsAfter, AtLeastOne}
+use Rattle.noise.specs.Entry.{Asked, billion, leastNoise, half, thousand, noiseAnswer, factorsAfter, AtLeastOne}
 use Rattle.noise.specs.Claims.{SoundRow}
 use Rattle.noise.proofs.Accepted.{Accepted, accepted-all}
 
@@ -49,7 +49,7 @@ use Rattle.noise.proofs.Accepted.{Accepted, accepted-all}
 abbrev pub most : Float
 most = fin false 1953125 (pos 29)
 
-ratio-in : (e n : Float) → Within plusZero billion e → Within millionth billion n → Within plusZero most (div binary32 e n)
+ratio-in : (e n : Float) → Within plusZero billion e → Within leastNoise billion n → Within plusZero most (div binary32 e n)
 unfolding le div
 ratio-in e n E N = div-in binary32 plusZero most E N tt
 
@@ -148,7 +148,7 @@ empty-in eps r E R =
     mul-in binary32 plusZero (fin false 125 (pos 2)) E over tt in
     add-in binary32 one fewHundred (point one tt) part tt
 
--- ---- two and three standard errors
+-- ---- what is taken off a bin's level and off a row's
 -- 1/4, 3/8
 abbrev pub quarter : Float
 quarter = fin false 1 (negsuc 1)
@@ -160,9 +160,9 @@ pub two-errors-in : (c : ℕ) → 1 ≤ c → c ≤ 52 → Within quarter two (t
 unfolding twoErrors le div
 two-errors-in c l h = div-in binary32 quarter two (point two tt) (root-in c l h) tt
 
-pub three-errors-in : (m : ℕ) → 1 ≤ m → m ≤ 52 → Within threeEighths three (div binary32 three (rootOf m))
+pub median-errors-in : (m : ℕ) → 1 ≤ m → m ≤ 52 → Within threeEighths three (div binary32 three (rootOf m))
 unfolding le div
-three-errors-in m l h = div-in binary32 threeEighths three (point three tt) (root-in m l h) tt
+median-errors-in m l h = div-in binary32 threeEighths three (point three tt) (root-in m l h) tt
 
 -- ---- a row's level
 -- -3 and 2^51
@@ -194,7 +194,7 @@ level-finite a lent ok i h =
     (λ t.
     level-from-finite median (div binary32 three (rootOf m))
     (held-in a lent ok i (r .place) median h (omega (arith, r .within)) (r .there))
-    (three-errors-in m (omega arith) (omega arith)))
+    (median-errors-in m (omega arith) (omega arith)))
 
 -- ---- a bin's level
 one-least : Least 0 one

@@ -1,4 +1,4 @@
--- What is claimed of every row of an accepted call (proofs/Least.antt): its names say what they mean.
+-- What is claimed of every row of an accepted call (proofs/Least.antt): that its names mean what they say.
 use Prim.Native.Nat.{ℕ, _+_, _-_, _/_}
 use mathlib.Core.Path.{_≡_}
 use Rattle.frame.specs.Format.{headerBits}

@@ -30,8 +30,8 @@ asked mode kind rows energies noise eps r = record { heard = burst mode kind row
 abbrev pub billion : Float
 billion = fin false 1953125 (pos 9)
 
-abbrev pub millionth : Float
-millionth = fin false 1 (negsuc 19)
+abbrev pub leastNoise : Float
+leastNoise = fin false 1 (negsuc 19)
 
 abbrev pub half : Float
 half = fin false 1 (negsuc 0)
@@ -52,7 +52,7 @@ unfoldable pub outOfRange : ℕ → Float → Float → List Float → List Floa
 outOfRange rows eps r noise energies =
     ltb 2048 rows
     || (outside plusZero half eps
-    || (outside one thousand r || (someOf (outside millionth billion) noise || someOf (outside plusZero billion) energies)))
+    || (outside one thousand r || (someOf (outside leastNoise billion) noise || someOf (outside plusZero billion) energies)))
 
 -- the answer's cases in document 01's words
 abbrev pub meaning : Factors → Outcome Unit

@@ -28,7 +28,7 @@ pub record Errors (errors : List Float) : Type 0 where
   pub size : length errors ≡ 26
   pub each : (c : ℕ) → 1 ≤ c → c ≤ 25 → getD errors c nan ≡ twoErrors c
 
--- what row i's factors are made of: the 25 rows around it, the bins that are read, and three standard errors of its level
+-- what row i's factors are made of: the 25 rows around it, the bins that are read, and what is taken off its level
 pub record Ready (a : Burst) (i : ℕ) (marks : List ℕ) (values : List Float) (read : ℕ) (less : Float) : Type 0 where
   pub nearby : Nearby (numbered a) (i + 13) marks values
   pub there : i < a .rows

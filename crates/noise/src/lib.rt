@@ -1,5 +1,5 @@
-// Local noise factors (phy_mfsk/rx/model.rs, `local_noise`), which is a public entry: for each row and bin how far the noise
-// has grown there over the burst's. Definitions in specs/.
+// Local noise factors (phy_mfsk/rx/model.rs): for each row and bin how far the noise has grown there over the burst's. `local_noise` is
+// the public entry. Definitions in specs/.
 ghost use mathlib.Core.Path.{_≡_};
 ghost use Prim.Native.Nat.{ℕ, _+_, _*_, _≤_, _<_};
 ghost use lib.Dec.{ltb};

@@ -15,7 +15,7 @@ unfoldable pub digits : ℕ → ℕ → ℕ → ℕ → ℕ
 digits zero w t m = m
 digits (suc k) w t m = digits k (w / 2) t (choose (ltb ((m + w) * (m + w)) (t + (m + w))) (m + w) m)
 
--- the whole number nearest √t, for t below 2^48
+-- the whole number nearest √t, for t up to 2^48 - 2^24 (beyond that it may have more than 24 digits)
 unfoldable pub wholeRoot : ℕ → ℕ
 wholeRoot t = digits 24 (2 ^ 23) t 0
 

@@ -4,7 +4,7 @@ ghost use mathlib.Core.Path.{_≡_};
 ghost use Prim.Native.Nat.{_^_, _≤_};
 ghost use Rattle.root.specs.Root.{wholeRoot, rootOf};
 
-// The whole number nearest √t, digit by digit from 2^23 down. The second clause is for the cast.
+// The whole number nearest √t, for t up to 2^48 - 2^24, digit by digit from 2^23 down. The second clause is for the cast.
 fn whole_root(t: u64) -> u64
     requires { ⌜ t ≤ 2 ^ 62 ⌝ }
     ensures answer { λ r. ⌜ r ≡ wholeRoot t ⌝ }
@@ -12,7 +12,7 @@ fn whole_root(t: u64) -> u64
 {
     let mut m = 0;
     let mut w = 0x80_0000;
-    let mut k = 24;
+    let mut k = 24u32;
     while 0 < k {
         let next = m + w;
         if next * next < t + next {

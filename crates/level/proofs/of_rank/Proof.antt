@@ -1,15 +1,15 @@
 -- `level::of_rank` meets its contract. The invariant: none of the bins passed has the rank, and the fences hold. The measure is what is left
 -- of the bins. Assumes nothing.
-use Prim.Native.Nat.{_+_, _-_, _≤_}
+use Prim.Native.Nat.{_-_, _≤_}
 use Rattle.level.proofs.Counting.{first-not, rank-here, rank-none}
 use Rattle.level.proofs.Fences.{no-fence, fences-more}
 use Rattle.level.proofs.Turns.{held-there}
 use Rattle.level.specs.Inside.{heldAt, Fenced}
 use Rattle.level.specs.Rank.{ranks, firstThat}
 use borrow.Author.Needs.{needs}
-use lib.Ieee.{nan, ofBits, div}
+use lib.Ieee.{ofBits, div}
 use mathlib.Core.Option.{none}
-use mathlib.Core.Path.{_≡_, refl, sym, _∙_}
+use mathlib.Core.Path.{_≡_, refl, sym}
 use native.Mathlib.Omega.{arith}
 use Rattle.level.proofs.of_rank.Statement.{statement}
 use Rattle.level.proofs.of_rank.Tie as tie

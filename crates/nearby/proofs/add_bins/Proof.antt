@@ -2,7 +2,7 @@
 -- Assumes nothing.
 use Prim.Native.Nat.{_-_, _≤_}
 use Rattle.level.specs.Inside.{heldAt}
-use Rattle.nearby.proofs.Fill.{onward-none, onward-more}
+use Rattle.nearby.proofs.Fill.{onward-more}
 use Rattle.nearby.proofs.Rows.{with-held}
 use Rattle.nearby.specs.Inside.{Onward}
 use Rattle.nearby.specs.Sum.{withNext}

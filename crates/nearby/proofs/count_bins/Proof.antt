@@ -2,7 +2,7 @@
 -- Assumes nothing.
 use Prim.Native.Nat.{ℕ, _+_, _-_, _≤_}
 use Rattle.level.specs.Rank.{once}
-use Rattle.nearby.proofs.Fill.{onward-none, onward-more}
+use Rattle.nearby.proofs.Fill.{onward-more}
 use Rattle.nearby.specs.Inside.{Onward}
 use borrow.Author.Needs.{needs}
 use lib.Dec.{eqb}

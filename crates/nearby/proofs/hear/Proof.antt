@@ -54,9 +54,9 @@ returns c =
     let row = ratioOf (a .energies .now) (a .noise .now) (a .i) in
     let same = tone ∙ strongest-same (a .bins) (a .h) _ row (omega arith) (λ b h. ratios b (omega arith)) in
     moved (a .i) (a .marks .now) (a .values .now) _ _
-    (record { marks-before = put .before; marks-after = put .after; values-before = row-put .before; values-after = row-put .after })
-    (heldOf row (strongestOf (a .bins) (a .h) row)) (put .size) (row-put .size)
-    (λ b h. held-is _ _ (52 * (a .i % 25)) _ b row (put .done b h ∙ marks b h) (row-put .done b h ∙ ratios b h) ∙ ap (λ (e : ℕ). heldOf row e b) same)
+    (record { marks-before = put .stored .kept; marks-after = put .after; values-before = row-put .stored .kept; values-after = row-put .after })
+    (heldOf row (strongestOf (a .bins) (a .h) row)) (put .stored .size) (row-put .stored .size)
+    (λ b h. held-is _ _ (52 * (a .i % 25)) _ b row (put .stored .done b h ∙ marks b h) (row-put .stored .done b h ∙ ratios b h) ∙ ap (λ (e : ℕ). heldOf row e b) same)
 
 pub hear-spec : {M : Type 1} → statement M
 hear-spec =

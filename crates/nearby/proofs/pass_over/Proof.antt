@@ -26,8 +26,8 @@ returns c =
     let put = c .before .before .put-marks .ensures in
     λ values.
     moved (a .i) (a .marks .now) values _ values
-    (record { marks-before = put .before; marks-after = put .after; values-before = λ k h. refl; values-after = λ k h. refl }) (λ b. none) (put .size) refl
-    (λ b h. held-missing _ values (52 * (a .i % 25)) b (put .done b h ∙ getD-replicate 52 b 0 0 h))
+    (record { marks-before = put .stored .kept; marks-after = put .after; values-before = λ k h. refl; values-after = λ k h. refl }) (λ b. none) (put .stored .size) refl
+    (λ b h. held-missing _ values (52 * (a .i % 25)) b (put .stored .done b h ∙ getD-replicate 52 b 0 0 h))
 
 pub pass-over-spec : {M : Type 1} → statement M
 pass-over-spec =

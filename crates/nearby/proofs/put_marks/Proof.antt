@@ -32,7 +32,7 @@ mul-list-2 : tie.Need-mul-list-2 Inv-loop μ-loop
 mul-list-2 c = search needs
 
 slice-write-list : tie.Need-slice-write-list Inv-loop μ-loop
-slice-write-list c = omega (arith, c .before .before .loop .inv .1 .size)
+slice-write-list c = omega (arith, c .before .before .loop .inv .1 .stored .size)
 
 add-b : tie.Need-add-b Inv-loop μ-loop
 add-b c = search needs
@@ -47,7 +47,7 @@ loop-again c =
     (omega arith, put-more 0 (at .loop .b) (a .base) (λ k. getD (a .row .now) k 0) (a .list .now) (at .loop .list) _ (at .loop .inv .1) (omega arith) refl)
 
 same-length : tie.Need-same-length Inv-loop μ-loop
-same-length c = c .before .loop .inv .1 .size
+same-length c = c .before .loop .inv .1 .stored .size
 
 returns : tie.Need-returns Inv-loop μ-loop
 returns c =

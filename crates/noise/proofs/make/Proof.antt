@@ -121,7 +121,7 @@ loop-again c =
     (c .before .before .before .before .before .before .before .before .before .before .before .before .before .before .before .before .before .before .before .two-errors .ensures) in (
       omega arith,
       numbered-as next near,
-      put .size ∙ at .loop .inv .2,
+      put .stored .size ∙ at .loop .inv .2,
       rows-made heard (a .empty) i (at .loop .factors) _ put (at .loop .inv .3),
     )
 

@@ -73,11 +73,13 @@ returns c =
     let g = c .before .before .before .before .before .before .before .before .before .before .before .before .before .before .before .args in
     λ a ready errors.
     record {
-      size = put .size;
-      done = λ b h. put .done b h
-          ∙ factors-are a (g .i) (g .marks .now) (g .values .now) (g .read) (g .less) ready (c .before .before .before .before .before .before .before .before .before .before .sums .result) (g .errors .now) (c .before .before .before .before .before .row .result)
-          (c .before .before .before .before .before .before .before .before .before .counts .result) (g .empty) (c .before .before .before .before .before .before .before .before .level .result) (pre .4) sums (counts (g .values .now)) errors level row b h;
-      before = put .before;
+      stored = record {
+        size = put .stored .size;
+        done = λ b h. put .stored .done b h
+            ∙ factors-are a (g .i) (g .marks .now) (g .values .now) (g .read) (g .less) ready (c .before .before .before .before .before .before .before .before .before .before .sums .result) (g .errors .now) (c .before .before .before .before .before .row .result)
+            (c .before .before .before .before .before .before .before .before .before .counts .result) (g .empty) (c .before .before .before .before .before .before .before .before .level .result) (pre .4) sums (counts (g .values .now)) errors level row b h;
+        kept = put .stored .kept;
+      };
       after = put .after;
     }
 

@@ -1,7 +1,9 @@
 -- `noise::row` meets its contract. The invariant: the bins passed have their factors, the others are 1. The measure is what is left
 -- of the bins that are read. Assumes nothing.
 use Prim.Native.Nat.{_-_, _≤_}
-use Rattle.noise.proofs.Bins.{Passed, passed-none, passed-more, passed-all}
+use Rattle.noise.proofs.Bins.{passed-all}
+use Rattle.level.proofs.Turns.{Passed, passed-none, passed-more}
+use Rattle.level.specs.Level.{one}
 use Rattle.noise.specs.Local.{factorFrom}
 use borrow.Author.Needs.{needs}
 use lib.Ieee.{nan, ofBits}
@@ -13,14 +15,14 @@ use Rattle.noise.proofs.row.Tie as tie
 
 abbrev Inv-loop : tie.InvT-loop
 Inv-loop sums counts read empty errors level out₀ b₀ out b =
-    (b ≤ read) × Passed (λ k. factorFrom (getD sums k nan) (getD counts k 0) empty (getD errors (getD counts k 0) nan) level) b out
+    (b ≤ read) × Passed nan one (λ k. factorFrom (getD sums k nan) (getD counts k 0) empty (getD errors (getD counts k 0) nan) level) b out
 
 abbrev μ-loop : tie.MeasureT-loop
 μ-loop sums counts read empty errors level out₀ b₀ out b = read - b
 
 loop-holds : tie.Need-loop-holds Inv-loop μ-loop
 unfolding ofBits
-loop-holds c = (omega arith, passed-none _)
+loop-holds c = (omega arith, passed-none nan one _)
 
 mul-factor : tie.Need-mul-factor Inv-loop μ-loop
 mul-factor c = search needs
@@ -78,7 +80,7 @@ loop-less c = search needs
 loop-again : tie.Need-loop-again Inv-loop μ-loop
 loop-again c =
     let at = c .before .before .before .before .before .before in
-    (omega arith, passed-more _ (at .loop .b) (at .loop .out) _ (omega arith) (c .factor .ensures) (at .loop .inv .1))
+    (omega arith, passed-more nan one _ (at .loop .b) (at .loop .out) _ (omega arith) (c .factor .ensures) (at .loop .inv .1))
 
 returns : tie.Need-returns Inv-loop μ-loop
 returns c =
