@@ -27,6 +27,8 @@ unsafe extern "C" {
     fn probe_bins(mode: u8) -> u64;
     fn probe_symbol(mode: u8) -> u64;
     fn probe_has_window(mode: u8, window: u32) -> u64;
+    fn probe_root(n: u32) -> f32;
+    fn probe_root_entry(k: usize) -> f32;
 }
 
 const MODES: [MfskMode; 2] = [MfskMode::R0, MfskMode::R1];
@@ -207,6 +209,21 @@ fn numbers(wrong: &mut bool) {
     s.end(wrong);
 }
 
+/// The square roots of local noise by `f32::sqrt`, as the Rust takes them: worked out in whole numbers, and as the table has them.
+fn roots(wrong: &mut bool) {
+    let theirs = |n: u32| (n as f32).sqrt().to_bits() as u64;
+    let mut s = Section::new("square roots of 1 to 52, worked out");
+    for n in 1..=52 {
+        s.pair(unsafe { probe_root(n) }.to_bits() as u64, theirs(n), || format!("n = {n}"));
+    }
+    s.end(wrong);
+    let mut s = Section::new("square roots of 1 to 52, the table's");
+    for n in 1..=52 {
+        s.pair(unsafe { probe_root_entry(n as usize - 1) }.to_bits() as u64, theirs(n), || format!("n = {n}"));
+    }
+    s.end(wrong);
+}
+
 fn main() {
     let mut wrong = false;
     drift::all(&mut wrong);
@@ -223,6 +240,7 @@ fn main() {
     sending::all(&mut wrong);
     slips::all(&mut wrong);
     boards::all(&mut wrong);
+    roots(&mut wrong);
     noise::all(&mut wrong);
     soft::all(&mut wrong);
     let headers = std::env::args().nth(1).map_or(2_400, |n| n.parse().expect("how many headers of each style"));

@@ -54,16 +54,16 @@ mod sys {
             mode: u8, kind: u8, rows: u32, energies: *const f32, energies_len: usize, noise: *const f32, noise_len: usize, eps: f32, r: f32,
             factors: *mut f32, factors_len: usize,
         ) -> u32;
-        pub fn ion_version_108() -> u32;
+        pub fn ion_version_109() -> u32;
     }
 }
 
 /// The number of the last change request that is in; 0 is the base. The library has it in a symbol's name, so a library of another
 /// version does not link.
-pub const VERSION: u32 = 108;
+pub const VERSION: u32 = 109;
 
 #[used]
-static VERSION_LINKED: unsafe extern "C" fn() -> u32 = sys::ion_version_108;
+static VERSION_LINKED: unsafe extern "C" fn() -> u32 = sys::ion_version_109;
 
 /// Terms of a symbol: five rows of 52.
 pub const TERMS: usize = 260;
@@ -782,7 +782,8 @@ pub fn soft_values(
 /// - The place's level: the mean of its z over this row, the twelve before and the twelve behind, as far as there are such rows and it is
 ///   there in them, over 1 + eps·(r - 1), less 2/√(their number). Where it is there in fewer than six of them there is none.
 ///
-/// Proved: every factor is finite and at least 1; five places are missing in every row; each square root is the `f32` nearest to the true one.
+/// Proved: every factor is finite and at least 1; five places are missing in every row; each square root is the `f32` nearest to the true one,
+/// from a table of 52, which the program `roots` works out anew and prints.
 ///
 /// [`Refusal::Noise`] where there are over [`ROWS`] rows, or `eps` is not in 0 to 0.5, `r` in 1 to 1,000, a noise in 2^-20 to 10^9 or an
 /// energy in 0 to 10^9, those of places that the mode does not have among them.

@@ -4,10 +4,11 @@ ghost use mathlib.Core.Path.{_≡_};
 ghost use Prim.Native.Nat.{ℕ, _+_, _*_, _≤_, _<_};
 ghost use lib.Dec.{ltb};
 ghost use lib.ListN.{length, getD};
-ghost use lib.Ieee.{nan};
+ghost use lib.Ieee.{nan, binary32, div};
 ghost use Rattle.util.specs.Choose.{choose};
 ghost use Rattle.util.specs.Some.{someOf};
-ghost use Rattle.level.specs.Level.{one};
+ghost use Rattle.root.specs.Root.{rootOf};
+ghost use Rattle.level.specs.Level.{one, three};
 ghost use Rattle.nearby.specs.Inside.{Put, Nearby};
 ghost use Rattle.noise.specs.Local.{Burst, burst, factorFrom, factorAt, factorsOf};
 ghost use Rattle.noise.specs.Entry.{asked, outside, outOfRange, sizes, meaning, noiseAnswer, factorsAfter, AtLeastOne};
@@ -17,11 +18,21 @@ ghost use Rattle.noise.specs.Inside.{Lent, Errors, Ready, numbered};
 fn two_errors() -> [f32; 26]
     ensures { λ r. ⌜ Errors r ⌝ }
 {
+    let roots = root_table::roots();
     let mut out = [0.0f32; 26];
-    for c in 1..26u32 {
-        out[c as usize] = 2.0 / root::root(c);
+    for c in 1..26usize {
+        out[c] = 2.0 / roots[c - 1];
     }
     out
+}
+
+// Two standard errors of a median of m values.
+fn median_errors(m: usize) -> f32
+    requires { ⌜ (1 ≤ m) × (m ≤ 52) ⌝ }
+    ensures { λ r. ⌜ r ≡ div binary32 three (rootOf m) ⌝ }
+{
+    let roots = root_table::roots();
+    3.0 / roots[m - 1]
 }
 
 // The factor of a bin from its sum, its count and its row's level, `empty` being the mean of an empty bin.
@@ -142,7 +153,7 @@ fn make(
     ensures { λ _. ⌜ now (factors .exit) ≡ factorsOf (burst mode kind rows (now (energies .entry)) (now (noise .entry))) empty ⌝ }
 {
     let read = (frame::bins(mode) + 4) as usize;
-    let less = 3.0 / root::root((read - 5) as u32);
+    let less = median_errors(read - 5);
     let errors = two_errors();
     let mut marks = [0u32; 1300];
     let mut values = [0.0f32; 1300];

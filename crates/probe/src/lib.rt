@@ -3,7 +3,8 @@
 ghost use mathlib.Core.Path.{_≡_};
 ghost use Prim.Native.Nat.{_/_};
 ghost use lib.Dec.{ltb};
-ghost use lib.ListN.{length};
+ghost use lib.ListN.{length, getD};
+ghost use lib.Ieee.{nan};
 ghost use Rattle.util.specs.Choose.{choose};
 ghost use Rattle.util.specs.SplitMix.{firstOutput};
 ghost use Rattle.util.specs.Gray.{grayOf};
@@ -12,7 +13,9 @@ ghost use Rattle.frame.specs.Air.{hopOf, binOf, slotOf};
 ghost use Rattle.interleave.specs.Interleave.{scrambleOf, symScrambleOf};
 ghost use Rattle.interleave.specs.RoundTrip.{bitsBack, metricsBack};
 ghost use Rattle.lse.specs.Lse.{expOf, ln1pOf};
-ghost use Rattle.probe.specs.Doors.{bitsFit, symbolsFit};
+ghost use Rattle.root.specs.Root.{rootOf};
+ghost use Rattle.root_table.specs.Table.{rootsOf};
+ghost use Rattle.probe.specs.Doors.{bitsFit, symbolsFit, noAnswer};
 
 #[no_mangle]
 pub extern "C" fn probe_mix64(seed: u64) -> u64
@@ -146,4 +149,27 @@ pub extern "C" fn probe_ln_1p(u: f32) -> f32
     ensures { λ r. ⌜ r ≡ ln1pOf u ⌝ }
 {
     lse::ln_1p(u)
+}
+
+// The root of n worked out anew, for n to 52.
+#[no_mangle]
+pub extern "C" fn probe_root(n: u32) -> f32
+    ensures { λ r. ⌜ r ≡ choose (ltb n 53) (rootOf n) noAnswer ⌝ }
+{
+    if n > 52 {
+        return 4294967296.0;
+    }
+    root::root(n)
+}
+
+// Entry k of the table of roots, that of k + 1, for k below 52.
+#[no_mangle]
+pub extern "C" fn probe_root_entry(k: usize) -> f32
+    ensures { λ r. ⌜ r ≡ choose (ltb k 52) (getD rootsOf k nan) noAnswer ⌝ }
+{
+    if k > 51 {
+        return 4294967296.0;
+    }
+    let roots = root_table::roots();
+    roots[k]
 }

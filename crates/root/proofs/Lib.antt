@@ -3,3 +3,4 @@ pub mod Turns
 pub mod Ways
 pub mod Sound
 pub mod Nearest
+pub mod Only

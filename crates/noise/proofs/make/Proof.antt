@@ -6,10 +6,9 @@ use Rattle.noise.specs.Inside.{numbered}
 use Rattle.noise.specs.Local.{burst, factorAt, factorsOf}
 use Rattle.util.specs.Table.{rows}
 use borrow.Author.Needs.{needs}
-use lib.Ieee.{nan, binary32, div, ofBits}
+use lib.Ieee.{nan, ofBits}
 use Rattle.util.proofs.Fill.{tabled-only}
 use Rattle.frame.proofs.Air.{some-bins}
-use Rattle.level.specs.Level.{three}
 use Rattle.noise.proofs.Shown.{numbered-as, begun}
 use Rattle.noise.proofs.Bins.{rows-made}
 use lib.ListN.{length, getD}
@@ -32,14 +31,13 @@ bins-requires c κs = search needs
 add-read : tie.Need-add-read Inv-loop μ-loop
 add-read c = omega (arith, c .bins .ensures, some-bins (c .before .before .before .before .args .mode) .1)
 
-sub-root : tie.Need-sub-root Inv-loop μ-loop
-sub-root c = omega (arith, c .bins .ensures, some-bins (c .before .before .before .before .args .mode) .0)
+sub-median-errors : tie.Need-sub-median-errors Inv-loop μ-loop
+sub-median-errors c = omega (arith, c .bins .ensures, some-bins (c .before .before .before .before .args .mode) .0)
 
-cast-root : tie.Need-cast-root Inv-loop μ-loop
-cast-root c = omega (arith, c .bins .ensures, some-bins (c .before .before .before .before .args .mode) .1)
-
-root-requires : tie.Need-root-requires Inv-loop μ-loop
-root-requires c κs = omega (arith, c .bins .ensures, some-bins (c .before .before .before .before .args .mode) .1)
+median-errors-requires : tie.Need-median-errors-requires Inv-loop μ-loop
+median-errors-requires c κs =
+    let own = some-bins (c .before .before .before .before .args .mode) in
+    (omega (arith, c .bins .ensures, own .0), omega (arith, c .bins .ensures, own .1))
 
 two-errors-requires : tie.Need-two-errors-requires Inv-loop μ-loop
 two-errors-requires c κs = search needs
@@ -116,7 +114,7 @@ loop-again c =
       nearby = numbered-as here near;
       there = omega arith;
       read-is = ap (λ (n : ℕ). n + 4) (c .before .before .before .before .before .before .before .before .before .before .before .before .before .before .before .before .before .before .before .before .before .bins .ensures);
-      less-is = ap (div binary32 three) (c .before .before .before .before .before .before .before .before .before .before .before .before .before .before .before .before .before .before .before .before .root .ensures);
+      less-is = c .before .before .before .before .before .before .before .before .before .before .before .before .before .before .before .before .before .before .before .before .median-errors .ensures;
     })
     (c .before .before .before .before .before .before .before .before .before .before .before .before .before .before .before .before .before .before .before .two-errors .ensures) in (
       omega arith,
@@ -139,4 +137,4 @@ returns c =
 pub make-spec : {M : Type 1} → statement M
 make-spec =
     tie.close
-    (tie.spec Inv-loop μ-loop bins-requires add-read sub-root cast-root root-requires two-errors-requires slice-aggregate-listen-ahead slice-aggregate-listen-ahead-2 listen-ahead-requires loop-holds add-listen slice-aggregate-listen slice-aggregate-listen-2 listen-requires slice-aggregate-put-factors slice-aggregate-put-factors-2 slice-aggregate-put-factors-3 put-factors-requires add-i loop-less loop-again same-length returns)
+    (tie.spec Inv-loop μ-loop bins-requires add-read sub-median-errors median-errors-requires two-errors-requires slice-aggregate-listen-ahead slice-aggregate-listen-ahead-2 listen-ahead-requires loop-holds add-listen slice-aggregate-listen slice-aggregate-listen-2 listen-requires slice-aggregate-put-factors slice-aggregate-put-factors-2 slice-aggregate-put-factors-3 put-factors-requires add-i loop-less loop-again same-length returns)
