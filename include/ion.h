@@ -222,8 +222,8 @@ uint32_t ion_soft_values(uint8_t mode, uint8_t kind, uint8_t layout, uint8_t sym
  * - The place's level: the mean of its z over this row, the twelve before and the twelve behind, as far as there are such rows and it is
  *   there in them, over 1 + eps*(r-1), less 2/sqrt(their number). Where it is there in fewer than six of them there is none.
  * Places from the mode's on (36 to 51 in R1) have 1; what is given for them is not used, but is refused out of range as any other.
- * Proved: every factor is finite and at least 1. Five places are missing in every row. Each square root is the float nearest to the true one,
- * from a table of 52; the program `roots` works them out anew and prints their bits.
+ * Proved: every factor is finite and at least 1. Five places are missing in every row. Each square root is the float nearest to the true one.
+ * The roots are a table of 52, which the program `roots` works out anew and prints.
  * Refused: 1, 4 (energies_len or factors_len is not rows*52, or noise_len not 52), 15 (over 2,048 rows; eps not in 0..0.5; r not in
  * 1..1,000; one of the 52 noises not in 2^-20..10^9; one of the 52 energies of a row not in 0..10^9). */
 uint32_t ion_local_noise(uint8_t mode, uint8_t kind, uint32_t rows, const float *energies, size_t energies_len, const float *noise,

@@ -209,7 +209,7 @@ fn numbers(wrong: &mut bool) {
     s.end(wrong);
 }
 
-/// The square roots of local noise by `f32::sqrt`, as the Rust takes them: worked out in whole numbers, and as the table has them.
+/// The square roots, worked out in whole numbers and from the table, against `f32::sqrt`, by which the Rust takes its own.
 fn roots(wrong: &mut bool) {
     let theirs = |n: u32| (n as f32).sqrt().to_bits() as u64;
     let mut s = Section::new("square roots of 1 to 52, worked out");

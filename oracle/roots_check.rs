@@ -10,10 +10,10 @@ fn line(n: u32, root: f32) -> String {
     format!("{n} {:08x}", root.to_bits())
 }
 
-/// A positive f32 from 1/2 to 8 in units of 2^-24, of which every such value is a whole number.
+/// A positive f32 from 1/2 to below 8, as a whole number of units of 2^-24.
 fn units(bits: u32) -> u128 {
     let (digits, exponent) = (u128::from(bits & 0x7f_ffff | 0x80_0000), bits >> 23);
-    assert!((126..=129).contains(&exponent), "{bits:08x} is not from 1/2 to 8");
+    assert!((126..=129).contains(&exponent), "{bits:08x} is not from 1/2 to below 8");
     digits << (exponent - 126)
 }
 
@@ -31,6 +31,8 @@ fn held(name: &str, text: &str, want: &str, wrong: &mut u32) {
     println!("{name}: {} lines, {} differ", ours.len(), differ.len());
     if let Some(&i) = differ.first() {
         println!("  line {}: {:?}, and not {:?}", i + 1, ours.get(i), theirs.get(i));
+    } else if text != want {
+        println!("  the lines do not end as they should");
     }
     *wrong += (text != want) as u32;
 }

@@ -782,8 +782,8 @@ pub fn soft_values(
 /// - The place's level: the mean of its z over this row, the twelve before and the twelve behind, as far as there are such rows and it is
 ///   there in them, over 1 + eps·(r - 1), less 2/√(their number). Where it is there in fewer than six of them there is none.
 ///
-/// Proved: every factor is finite and at least 1; five places are missing in every row; each square root is the `f32` nearest to the true one,
-/// from a table of 52, which the program `roots` works out anew and prints.
+/// Proved: every factor is finite and at least 1; five places are missing in every row; each square root is the `f32` nearest to the true one.
+/// The roots are a table of 52, which the program `roots` works out anew and prints.
 ///
 /// [`Refusal::Noise`] where there are over [`ROWS`] rows, or `eps` is not in 0 to 0.5, `r` in 1 to 1,000, a noise in 2^-20 to 10^9 or an
 /// energy in 0 to 10^9, those of places that the mode does not have among them.

@@ -26,7 +26,7 @@ fn two_errors() -> [f32; 26]
     out
 }
 
-// Two standard errors of a median of m values.
+// Two standard errors of a median of m values, each 1.5/√m of the mean.
 fn median_errors(m: usize) -> f32
     requires { ⌜ (1 ≤ m) × (m ≤ 52) ⌝ }
     ensures { λ r. ⌜ r ≡ div binary32 three (rootOf m) ⌝ }

@@ -1,4 +1,4 @@
--- The lengths at which the doors to the receiving interleavers answer, and what a door that gives a float gives where it has no answer.
+-- The lengths at which the doors to the receiving interleavers answer, and what a door to a float gives where there is no answer.
 use Prim.Native.Nat.{ℕ, _*_, _/_}
 use mathlib.Core.Bool.{Bool, false, _&&_}
 use lib.Dec.{eqb, leb}

@@ -1,2 +1,2 @@
 -- Laws of this crate's definitions.
-pub mod Whole
+pub mod Entries

@@ -1,5 +1,5 @@
--- Document 02, #109: the table of the 52 roots. `NearestRoots` says what its entries are, whatever way they were come by; `rootsOf` says that
--- they are what crate `root` works out.
+-- Document 02, #109: the table of the 52 roots. `NearestRoots` says what its entries are, however they were found; `rootsOf` is the list of the
+-- roots that crate `root` works out.
 use Prim.Native.Nat.{ℕ, suc, _-_, _≤_}
 use mathlib.Core.List.{List}
 use mathlib.Core.Path.{_≡_}

@@ -4,7 +4,7 @@ ghost use mathlib.Core.Path.{_≡_};
 ghost use Rattle.root_table.specs.Table.{rootsOf, NearestRoots};
 
 // The f32 nearest √n at place n - 1, beside it n and its bits as the program `roots` prints them.
-pub const ROOTS: [f32; 52] = [
+const ROOTS: [f32; 52] = [
     1.0, // 1 3f800000
     1.4142135, // 2 3fb504f3
     1.7320508, // 3 3fddb3d7
@@ -59,7 +59,7 @@ pub const ROOTS: [f32; 52] = [
     7.2111025, // 52 40e6c15a
 ];
 
-// Inside: the table, to be taken once before a loop: a constant array that a loop indexes is made anew at each turn.
+// Inside: the table. Each call makes a copy, so it is taken once, before a loop.
 pub fn roots() -> [f32; 52]
     ensures nearest { λ r. ⌜ NearestRoots r ⌝ }
     ensures worked_out { λ r. ⌜ r ≡ rootsOf ⌝ }

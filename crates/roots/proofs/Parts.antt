@@ -1,4 +1,4 @@
--- A line's parts one behind another, how many digits its two numbers have, and the lines that document 02 names. Assumes nothing.
+-- A line's parts one behind another, and how many digits its two numbers have. Assumes nothing.
 use Prim.Native.Nat.{ℕ, zero, suc, _+_, _-_, _^_, _≤_, _<_}
 use mathlib.Core.List.{List, [], _∷_, _++_, append-assoc}
 use mathlib.Core.Logic.{⊎-elim}
@@ -46,7 +46,7 @@ one-count b least n k j p f g = le-antisymm (no-more b least n j k p g f) (no-mo
 pub decimal-is : (n k : ℕ) (text : List ℕ) → n < 100 → Fewest 10 1 n k → text ≡ digits 10 k n → (k ≤ 2) × (text ≡ decimalOf n)
 unfolding decimalOf
 decimal-is n k text h f e =
-    let ten : n < 10 ^ 2 = omega arith in
+    let two-hold : n < 10 ^ 2 = omega arith in
     ⊎-elim
     (λ l.
     let one = one-count 10 1 n k 1 (omega arith) f (omega arith, omega arith, (λ b. absurd (omega arith))) in (
@@ -54,7 +54,7 @@ decimal-is n k text h f e =
       e ∙ ap (λ (i : ℕ). digits 10 i n) (one ∙ sym (chosen 1 2 (lt-ltb n 10 l))),
     ))
     (λ l.
-    let two = one-count 10 1 n k 2 (omega arith) f (omega arith, ten, (λ b. l)) in (
+    let two = one-count 10 1 n k 2 (omega arith) f (omega arith, two-hold, (λ b. l)) in (
       omega arith,
       e ∙ ap (λ (i : ℕ). digits 10 i n) (two ∙ sym (not-chosen 1 2 (le-ltb n 10 l))),
     ))

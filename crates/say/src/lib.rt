@@ -1,4 +1,4 @@
-// What the programs print with: text and numbers on standard output.
+// What `edges` and the replays print with: text and numbers on standard output.
 use libc::STDOUT_FILENO;
 
 pub fn text(s: &[u8]) {

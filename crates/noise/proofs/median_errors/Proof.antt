@@ -1,5 +1,5 @@
 -- `noise::median_errors` meets its contract: the table's entry for m is its root. Assumes nothing.
-use Rattle.root_table.proofs.Whole.{entry}
+use Rattle.root_table.proofs.Entries.{entry}
 use borrow.Author.Needs.{needs}
 use lib.Ieee.{binary32, div, ofBits}
 use Rattle.level.specs.Level.{three}

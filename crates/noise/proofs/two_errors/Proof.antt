@@ -1,7 +1,7 @@
 -- `noise::two_errors` meets its contract. The invariant: the counts passed have theirs. The measure is what is left of the 25.
 -- Assumes nothing.
 use Prim.Native.Nat.{ℕ, _-_, _≤_, _<_}
-use Rattle.root_table.proofs.Whole.{entry}
+use Rattle.root_table.proofs.Entries.{entry}
 use Rattle.noise.proofs.Bins.{errors-more}
 use Rattle.noise.specs.Local.{two, twoErrors}
 use borrow.Author.Needs.{needs}

@@ -2,7 +2,7 @@
 use mathlib.Core.Path.{refl}
 use lib.Ieee.{fits, ofBits}
 use Rattle.root.proofs.Nearest.{upTo}
-use Rattle.root_table.proofs.Whole.{all-nearest, worked-out}
+use Rattle.root_table.proofs.Entries.{all-nearest, worked-out}
 use Rattle.root_table.proofs.roots.Statement.{statement}
 use Rattle.root_table.proofs.roots.Tie as tie
 
