@@ -223,6 +223,14 @@ fn stop(why: &str) -> ! {
 
 fn main() {
     let word = |i: usize| std::env::args().nth(i);
+    if word(1).as_deref() == Some("once") && word(2).as_deref() == Some("noise") {
+        // local noise factors of one burst, to count its instructions
+        let number = |i| word(i).and_then(|n| n.parse().ok()).unwrap_or_else(|| stop("once noise needs a mode and a number of rows"));
+        let (mode, rows) = (number(3), number(4));
+        let b = drawn(&mut Dice(8 << 50), 1, mode as u8, 1, rows);
+        assert!(b.factors(&mut vec![2f32; ROW * rows as usize]) == 0);
+        return;
+    }
     if word(1).as_deref() == Some("once") {
         // one burst of each form, to count its instructions
         let n = word(2).and_then(|n| n.parse().ok()).unwrap_or_else(|| stop("once needs a number of symbols"));

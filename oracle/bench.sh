@@ -3,6 +3,7 @@
 # in one run, slips by themselves and puts on a segment board against a map's, and plots soft values by the number of symbols.
 # usage: oracle/bench.sh [REPEATS]      (from anywhere; needs rustc and ../shared; writes only below target/: the plot is target/bench.svg)
 #        oracle/bench.sh once SYMBOLS   one burst of soft values in each form, for valgrind to count its instructions in target/oracle/bench
+#        oracle/bench.sh once noise MODE ROWS      local noise of one burst, for the same
 # REPEATS: 100 unless given, which takes some minutes.
 set -eu
 . "$(dirname "$0")/common.sh"

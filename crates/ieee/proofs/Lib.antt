@@ -84,6 +84,10 @@
 --     a divisor that the test `<= 0.0` let through is positive
 -- Order.positive-num : (x : Float) → T (positive x) → 0 < num x
 --     what is positive is not 0 in size
+-- Order.positive-le : (x : Float) → T (positive x) → T (le plusZero x)
+--     and not below 0.0
+-- Order.positive-plain : (x : Float) → T (positive x) → T (not (isZero true x))
+--     nor -0.0
 -- Rounds.add-mono : (f : Format) (x x' y y' : Float) → T (finite x) → T (finite x') → T (finite y) → T (finite y') → T (le x x') → T (le y y') → T
 -- (le (add f x y) (add f x' y'))
 --     a rounded sum grows with each term
@@ -238,6 +242,8 @@
 --     the order of casts is that of the integers
 -- Values.ofInt-allowed : (f : Format) (z : ℤ) → natAbs z ≤ 2 ^ prec f → T (inFloat f z)
 --     what the machine asks of a cast
+-- Values.pattern-below : (x : Float) → fits binary32 x ≡ true → toBits binary32 x < 2 ^ 32
+--     the bits of an f32, as a number
 --
 -- 5. Exact values (in units of 2 ^ -j, for f32 of 2 ^ -149: every finite value is a whole number of them)
 -- Units.add-near : (f : Format) (h : ℕ) {x y : Float} {a b : ℤ} → Units (low f) x a → Units (low f) y b → natAbs (a +ℤ b) ≤ 2 ^ (prec f + suc h) → T

@@ -12,7 +12,7 @@ use lib.Ieee.{Float, nan, inf, fin, up, down, below, level, lt, eq, le, neg, isN
 use lib.Ieee.Fits.{up-pos, and-i, and-l, and-r, eq→eqb}
 use lib.Ieee.Scale.{finite}
 use lib.Ieee.Positive.{num, den, den-pos, positive}
-use Rattle.ieee.specs.Whole.{plusZero}
+use Rattle.ieee.specs.Whole.{plusZero, isZero}
 use Rattle.ieee.proofs.Integers.{by-test}
 
 -- ---- a size with a sign, as a difference
@@ -285,6 +285,18 @@ positive-num nan p = absurd p
 positive-num (inf s) p = absurd p
 positive-num (fin true m e) p = absurd p
 positive-num (fin false m e) p = mul-pos (ltb→lt 0 m p) (up-pos e)
+
+pub positive-le : (x : Float) → T (positive x) → T (le plusZero x)
+positive-le nan p = absurd p
+positive-le (inf s) p = absurd p
+positive-le (fin true m e) p = absurd p
+positive-le (fin false m e) p = cross→le plusZero (fin false m e) tt tt (omega arith)
+
+pub positive-plain : (x : Float) → T (positive x) → T (not (isZero true x))
+positive-plain nan p = absurd p
+positive-plain (inf s) p = absurd p
+positive-plain (fin true m e) p = absurd p
+positive-plain (fin false m e) p = tt
 
 -- ---- `<=`, `<` and `==` together
 pub eq→le : (x y : Float) → T (eq x y) → T (le x y)

@@ -10,9 +10,9 @@ use lib.Dec.{T, eqb, leb, ltb, eqb→eq, le→leb, leb→le, lt→ltb, ltb→lt,
 use lib.Pow.{pow-add, pow-pos}
 use lib.IntN.{ℤ, pos, negsuc, natAbs, _+ℤ_, _-ℤ_}
 use lib.Signed.{leZ, ≤ℤ-refl}
-use lib.Ieee.{Float, nan, inf, fin, Format, prec, emax, low, up, down, size, hid, top}
+use lib.Ieee.{Float, nan, inf, fin, Format, binary32, prec, emax, low, up, down, size, hid, top}
 use lib.Ieee.{round, sum, add, sub, neg, ofInt, ofBits, toBits, eq, lt, le, fits, inFloat}
-use lib.Ieee.Bits.{ofBits-toBits}
+use lib.Ieee.Bits.{ofBits-toBits, toBits-lt}
 use lib.Ieee.Exact.{HasValue, round-exact}
 use lib.Ieee.Fits.{and-l, and-r, down-pos, round-fits, add-fits, sub-fits, ofInt-fits}
 use lib.Ieee.Scale.{finite}
@@ -36,6 +36,10 @@ bits-of f s m e n d h =
 one-value : (f : Format) (s : Bool) (m : ℕ) (e : ℤ) (n : ℕ) (d : ℤ) → T (fits f (fin s m e)) → T (fits f (fin s n d))
     → m * up e * down d ≡ n * up d * down e → fin s m e ≡ fin s n d
 one-value f s m e n d p q h = sym (ofBits-toBits f (fin s m e) p) ∙ ap (ofBits f) (bits-of f s m e n d h) ∙ ofBits-toBits f (fin s n d) q
+
+-- ---- what an f32 is by its bits has 32 of them
+pub pattern-below : (x : Float) → fits binary32 x ≡ true → toBits binary32 x < 2 ^ 32
+pattern-below x e = toBits-lt binary32 x (subst T (sym e) tt)
 
 -- ---- rounding a value of the format changes nothing
 same-value : (f : Format) (s : Bool) (m : ℕ) (e : ℤ) (x : Float) → T (fits f x) → T (fits f (fin s m e)) → HasValue x s (m * up e) (down e) → x ≡ fin s m e

@@ -1,26 +1,19 @@
 -- `roots::append_bits` meets its contract: a pattern is below 2^32, so that `io::hex` has eight digits at the width of eight. Assumes nothing.
-use Prim.Native.Nat.{_^_, _<_}
-use mathlib.Core.Bool.{true}
 use mathlib.Core.List.{List, _++_}
-use mathlib.Core.Path.{_≡_, sym, ap, subst, _∙_}
+use mathlib.Core.Path.{ap, _∙_}
 use native.Mathlib.Omega.{arith}
-use lib.Dec.{T}
-use lib.Ieee.{Float, binary32, fits, toBits}
-use lib.Ieee.Bits.{toBits-lt}
 use lib.ListN.{take}
 use borrow.Author.Needs.{needs}
+use Rattle.ieee.proofs.Values.{pattern-below}
 use Rattle.roots.proofs.Parts.{bits-are}
 use Rattle.roots.proofs.append_bits.Statement.{statement}
 use Rattle.roots.proofs.append_bits.Tie as tie
-
-pattern : (x : Float) → fits binary32 x ≡ true → toBits binary32 x < 16 ^ 8
-pattern x e = toBits-lt binary32 x (subst T (sym e) tt)
 
 float-to-bits-hex : tie.Need-float-to-bits-hex
 float-to-bits-hex c = c .before .pre .0
 
 cast-hex : tie.Need-cast-hex
-cast-hex c = record { fits = omega (arith, pattern (c .before .args .x) (c .before .good .1 .1 .0 .1)) }
+cast-hex c = record { fits = omega (arith, pattern-below (c .before .args .x) (c .before .good .1 .1 .0 .1)) }
 
 hex-requires : tie.Need-hex-requires
 hex-requires c κs = search needs
@@ -35,7 +28,7 @@ append-requires : tie.Need-append-requires
 append-requires c κs =
     let h = c .before .before .hex in
     let at = c .before .before .before .before .before in
-    let text = bits-are (at .args .x) (h .result) _ (pattern (at .args .x) (at .good .1 .1 .0 .1)) (h .ensures .1 .0) (h .ensures .1 .1) in
+    let text = bits-are (at .args .x) (h .result) _ (pattern-below (at .args .x) (at .good .1 .1 .0 .1)) (h .ensures .1 .0) (h .ensures .1 .1) in
     omega (arith, h .ensures .0 .1, text .0, at .pre .1)
 
 same-length : tie.Need-same-length
@@ -46,7 +39,7 @@ returns c =
     let h = c .before .before .before .before .before .hex in
     let at = c .before .before .before .before .before .before .before .before in
     let told = c .before .before .append .ensures in
-    let text = bits-are (at .args .x) (h .result) _ (pattern (at .args .x) (at .good .1 .1 .0 .1)) (h .ensures .1 .0) (h .ensures .1 .1) in
+    let text = bits-are (at .args .x) (h .result) _ (pattern-below (at .args .x) (at .good .1 .1 .0 .1)) (h .ensures .1 .0) (h .ensures .1 .1) in
     (omega (arith, told .0, h .ensures .0 .1, text .0), told .1 ∙ ap (λ (l : List _). take (at .args .at) (at .args .out .now) ++ l) (text .1))
 
 pub append-bits-spec : {M : Type 1} → statement M
