@@ -32,10 +32,10 @@ extern "C" {
 
 /* The number of the last change request that is in; 0 is the base. Answer, outcome and tracker will grow. The library has the number
  * in a symbol's name, which every file that includes this header asks for: a library of another version does not link. */
-#define ION_VERSION 109
-uint32_t ion_version_109(void);
+#define ION_VERSION 110
+uint32_t ion_version_110(void);
 #if defined(__GNUC__)
-__attribute__((used)) static uint32_t (*const ion_version)(void) = ion_version_109;
+__attribute__((used)) static uint32_t (*const ion_version)(void) = ion_version_110;
 #endif
 
 /* modes, kinds, the form of data, the first and the last layout, what was heard of a symbol, outcomes of a header read (from the best reading to
@@ -185,14 +185,18 @@ static inline uint32_t ion_slip_from_bytes(ion_slip *s, const uint8_t *slip, siz
  * places of 44; place i begins at board + 44*i, and ion_slip_from_bytes reads it. *count: how many of them are listed, from the first on;
  * an empty board is a count of 0 over any bytes. Places past the count are not read, and of them only the one that a new segment fills is
  * written. slip: a slip's bytes, outside the board.
- * - Its segment is listed: it takes the listed slip's place where its start sample is later, or where both starts are equal and its reading
- *   is better: Sure is better than Likely, Likely than Kept, and Kept than Open; pass, score, word, mode and kind have no part in it. Else
- *   the listed slip remains, and nothing is written; so a slip put a second time changes nothing.
+ * - Its segment is listed: it takes the listed slip's place where its reading is better, whichever start is the later, or where both readings
+ *   are equal and its start sample is later. Sure is better than Likely, Likely than Kept, and Kept than Open; pass, score, word, mode and
+ *   kind have no part in it. Else the listed slip remains, and nothing is written: so it is with a later slip that reads worse, and with one
+ *   put a second time.
  * - Its segment is not listed: it is put where segments go on rising, those behind it move up by one place, and *count grows by one.
  * 0 is returned in each of these cases.
  * Proved: after any series of strings from an empty board, those refused set aside, the board shows for each segment the slip that the two
- * rules leave of the segment's own slips in order of arrival. A segment once listed stays listed: so of one segment's slips all are
- * accepted or none, and listed are the first 512 different segments that came. No put of such a series is refused for its board.
+ * rules leave of the segment's own slips in order of arrival, which is the one that came first of those that read best and, of these, start
+ * latest. A segment once listed stays listed: so of one segment's slips all are accepted or none, and listed are the first 512 different
+ * segments that came. No put of such a series is refused for its board.
+ * Before version 110 the start was tried first and the reading only between equal starts. A board from then is taken as it is: what it
+ * shows is judged against further slips by the order above, and what it passed over is not on it.
  * Refused, the board and *count as they were: 4 (board_len is not ION_BOARD_BYTES), 13 (*count above 512, a listed place that is no slip,
  * segments of listed places that do not rise, one standing twice among them, or slip is no slip, whatever its length), 14 (the segment is
  * not listed, and 512 are). */

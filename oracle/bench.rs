@@ -130,8 +130,9 @@ fn slips(repeats: usize) {
 }
 
 /// Puts on a board with so many listed, 100 a repeat, in microseconds a put: against the second board of board.rs, the Rust has none. Each finds
-/// as many listed: the count is set back, so that one more at the front lets the last one fall away.
-fn puts(repeats: usize, name: &str, listed: u16, number: u32, slip_at: impl Fn(u16, Slip) -> Slip) {
+/// as many listed: the count is set back, so that one more at the front lets the last one fall away. `shown`: whether the board then shows the
+/// last one put.
+fn puts(repeats: usize, name: &str, listed: u16, number: u32, shown: bool, slip_at: impl Fn(u16, Slip) -> Slip) {
     let done = pairs(repeats, |i, first| {
         let mut d = Dice(7 << 50 | i << 20);
         let mut bytes = board_of(&mut d, &(0..listed).map(|i| 1000 + 2 * i).collect::<Vec<u16>>());
@@ -144,7 +145,7 @@ fn puts(repeats: usize, name: &str, listed: u16, number: u32, slip_at: impl Fn(u
             second.put(black_box(s))
         };
         let ((us, k), (theirs, l)) = by_turns(first, || slips.iter().map(by_us).max(), || slips.iter().map(by_second).max());
-        assert!(k == Some(number) && l == k && ours == second.bytes);
+        assert!(k == Some(number) && l == k && ours == second.bytes && ours.chunks(44).any(|place| place == slips[99]) == shown);
         (us * 10.0, theirs * 10.0)
     });
     line(name, &done);
@@ -249,11 +250,12 @@ fn main() {
     sending(repeats, "symbols sent, 2,048", true);
     slips(repeats);
     println!("ours / a map, {repeats} repeats         median   least  greatest   ours, µs     a map, µs");
-    // a listed segment's start rises from put to put; an unlisted one lies between listed ones; a new one before all, falling from put to put
-    puts(repeats, "slip put, replaces one of 512", 512, 0, |j, s| Slip { start: 1 + j as u64, segment: 1512, ..s });
-    puts(repeats, "slip put, one of 512 remains", 512, 0, |_, s| Slip { start: 0, outcome: 2, pass: 0, segment: 1512, ..s });
-    puts(repeats, "slip put, refused with 14", 512, 14, |_, s| Slip { segment: 1513, ..s });
-    puts(repeats, "slip put, in front of 511", 511, 0, |j, s| Slip { segment: 999 - j, ..s });
+    // a listed segment's start rises from put to put, all Sure; an unlisted one lies between listed ones; a new one before all, falling from
+    // put to put
+    puts(repeats, "slip put, replaces one of 512", 512, 0, true, |j, s| Slip { start: 1 + j as u64, outcome: 0, pass: 1, segment: 1512, ..s });
+    puts(repeats, "slip put, one of 512 remains", 512, 0, false, |_, s| Slip { start: 0, outcome: 2, pass: 0, segment: 1512, ..s });
+    puts(repeats, "slip put, refused with 14", 512, 14, false, |_, s| Slip { segment: 1513, ..s });
+    puts(repeats, "slip put, in front of 511", 511, 0, true, |j, s| Slip { segment: 999 - j, ..s });
     println!("ours / the Rust, {repeats} repeats      median   least  greatest   ours, ns  the Rust, ns  (a row)");
     for mode in 0..2 {
         let a_row = [1, 25, 256, 1_024, 2_048].map(|rows| local_noise(repeats, rows, mode));

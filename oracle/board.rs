@@ -1,4 +1,4 @@
-// A second segment board, written from document 02's words (#105, #107): the Rust has none. It knows nothing of moving places: a put makes a map
+// A second segment board, written from document 02's words (#105, #107, #110): the Rust has none. It knows nothing of moving places: a put makes a map
 // from segment to slip out of the listed places, judges in it, and lays the map out again. Slips are read by the second reader of slip.rs.
 #![allow(dead_code)] // not every program asks for all of it
 use super::slip::{Slip, read};
@@ -25,9 +25,10 @@ pub fn rank(outcome: u8) -> u8 {
     }
 }
 
-/// The two yard rules, the start tried first: whether a new slip takes the place of the listed one of its segment.
+/// The two yard rules, the reading first and the start between equal readings: whether a new slip takes the place of the listed one of its
+/// segment.
 pub fn replaces(new: &Slip, listed: &Slip) -> bool {
-    (new.start, rank(new.outcome)) > (listed.start, rank(listed.outcome))
+    (rank(new.outcome), new.start) > (rank(listed.outcome), listed.start)
 }
 
 impl Board {

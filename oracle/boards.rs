@@ -42,19 +42,46 @@ impl Both {
     }
 }
 
-/// The two yard rules on two slips of one segment, the start tried first, the reading between equal starts: which one remains.
-fn judged(listed: Slip, new: Slip) -> Slip {
+/// How a reading is to another: Less where it is the worse.
+fn reading(a: &Slip, b: &Slip) -> Ordering {
     let (sure, likely, kept, open) = (0, 3, 1, 2);
-    let better = [(sure, likely), (sure, kept), (sure, open), (likely, kept), (likely, open), (kept, open)].contains(&(new.outcome, listed.outcome));
-    match new.start.cmp(&listed.start) {
+    let better = [(sure, likely), (sure, kept), (sure, open), (likely, kept), (likely, open), (kept, open)];
+    better.contains(&(a.outcome, b.outcome)).cmp(&better.contains(&(b.outcome, a.outcome)))
+}
+
+/// Document 02, #110, on two slips of one segment: reading first, start between equal readings, listed slip if both are equal.
+fn judged(listed: Slip, new: Slip) -> Slip {
+    match reading(&new, &listed) {
         Ordering::Greater => new,
-        Ordering::Equal if better => new,
+        Ordering::Equal if new.start > listed.start => new,
         _ => listed,
     }
 }
 
-/// Document 02's sentence on our answers alone. The first 512 different segments of the lawful slips are listed, and each shows what the two
-/// rules leave of all its own slips, in order of arrival; any other lawful slip got 14, and a string that is no slip 13.
+/// The same by #105, before #110: the start first, the reading between equal starts.
+fn judged_before(listed: Slip, new: Slip) -> Slip {
+    match new.start.cmp(&listed.start) {
+        Ordering::Greater => new,
+        Ordering::Equal if reading(&new, &listed) == Ordering::Greater => new,
+        _ => listed,
+    }
+}
+
+/// What a segment must show of its own slips, in order of arrival: what the two rules leave of them one after another; which is the first of
+/// those that read best and of these are the latest; and, where none of them is later than another but reads worse, what #105's order left.
+fn shows(s: &mut Section, own: &[Slip], place: &[u8], input: impl Fn() -> String) {
+    let left = own.iter().copied().reduce(judged).unwrap();
+    let first_of_best = own.iter().rev().max_by(|a, b| reading(a, b).then(a.start.cmp(&b.start))).unwrap();
+    s.pair((place != left.written(44).unwrap()) as u64, 0, || format!("what is shown after {}", input()));
+    s.pair((left != *first_of_best) as u64, 0, || format!("the first of the best of {}", input()));
+    if !own.iter().any(|a| own.iter().any(|b| a.start > b.start && reading(a, b) == Ordering::Less)) {
+        let before = own.iter().copied().reduce(judged_before).unwrap();
+        s.pair((left != before) as u64, 0, || format!("none at odds in {}", input()));
+    }
+}
+
+/// Document 02's sentence on our answers alone. The first 512 different segments of the lawful slips are listed, and each shows what it must
+/// of all its own slips; any other lawful slip got 14, and a string that is no slip 13.
 fn sentence(s: &mut Section, strings: &[Vec<u8>], numbers: &[u32], shown: &[u8], input: impl Fn() -> String) {
     let slips: Vec<Slip> = strings.iter().filter_map(|x| read(x).ok()).collect();
     let mut first: Vec<u16> = Vec::new();
@@ -68,8 +95,11 @@ fn sentence(s: &mut Section, strings: &[Vec<u8>], numbers: &[u32], shown: &[u8],
         s.pair(told(number), told(want), || format!("the sentence on put {i} of {}", input()));
     }
     first.sort();
-    let left = first.iter().map(|g| slips.iter().filter(|x| x.segment == *g).copied().reduce(judged).unwrap());
-    s.pair((shown != left.flat_map(|x| x.written(44).unwrap()).collect::<Vec<u8>>()) as u64, 0, || format!("what is shown after {}", input()));
+    s.pair(shown.len() as u64, 44 * first.len() as u64, || format!("how much is shown after {}", input()));
+    for (&g, place) in first.iter().zip(shown.chunks(44)) {
+        let own: Vec<Slip> = slips.iter().filter(|x| x.segment == g).copied().collect();
+        shows(s, &own, place, || format!("segment {g} of {}", input()));
+    }
 }
 
 /// A series from an empty board over what is left in its places: the numbers, and what is shown at the end.
@@ -112,23 +142,33 @@ fn few_segments(wrong: &mut bool) {
     }
 }
 
-/// One slip listed, and a new one for its segment: every two of ten starts, every two of seven readings, either score the greater.
+/// One slip listed, and a new one for its segment: every two of ten starts, every two of seven readings, either score the greater. Against
+/// #105's order two judgements are others and no more: a later but worse slip no longer replaces, an earlier but better one now does.
 fn judgements(wrong: &mut bool) {
     let mut d = Dice(1105);
     let mut s = Section::new("boards, every judgement of ten starts and seven readings");
     let starts = [0, 1, 2, 0xFF, 0x100, 0xFFFF_FFFF, 1 << 32, (1 << 63) - 1, 1 << 63, u64::MAX];
     let readings = [(0, 1), (0, 2), (0, 3), (3, 2), (3, 3), (1, 0), (2, 0)];
     let (start_pairs, reading_pairs) = (starts.map(|a| starts.map(|b| (a, b))), readings.map(|a| readings.map(|b| (a, b))));
+    let mut changed = [0, 0];
     for &(old, new) in start_pairs.as_flattened() {
         for &((was, was_pass), (is, is_pass)) in reading_pairs.as_flattened() {
             for scores in [[1f32, 2.0], [2.0, 1.0]].map(|x| x.map(f32::to_bits)) {
                 let listed = Slip { start: old, outcome: was, pass: was_pass, score: scores[0], segment: 7, ..lawful_slip(&mut d) };
                 let slip = Slip { start: new, outcome: is, pass: is_pass, score: scores[1], segment: 7, ..lawful_slip(&mut d) };
                 let (strings, which) = ([listed, slip].map(|x| x.written(44).unwrap()), s.all);
-                series(&mut s, which, &strings, vec![0x5A; BYTES]);
+                let (_, shown) = series(&mut s, which, &strings, vec![0x5A; BYTES]);
+                let replaced = (judged_before(listed, slip) == slip, shown == strings[1]);
+                let met = (new.cmp(&old), reading(&slip, &listed));
+                s.pair((replaced == (true, false)) as u64, (met == (Ordering::Greater, Ordering::Less)) as u64, || format!("later but worse, {which}"));
+                s.pair((replaced == (false, true)) as u64, (met == (Ordering::Less, Ordering::Greater)) as u64, || format!("earlier but better, {which}"));
+                changed[0] += (replaced == (true, false)) as u64;
+                changed[1] += (replaced == (false, true)) as u64;
             }
         }
     }
+    // 45 of the 100 pairs of starts, 17 of the 49 of readings, either score
+    changed.iter().for_each(|&n| s.pair(n, 45 * 17 * 2, || "judgements that are others".into()));
     s.end(wrong);
 }
 

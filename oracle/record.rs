@@ -3,10 +3,11 @@
 // for crates/board_series/stdin, or with the word `noise` local noise factors, and by the table of noisy.rs what is refused of them, for
 // crates/noise_series/stdin.
 use ion::phy_mfsk::hook::{Fmt, Kind, MfskMode, Terms, Tracker, air, code, decode_terms, decode_terms_told, blanked_frac, fit_drift, soft_terms, windows};
-use board::Board;
+use board::{Board, rank};
 use face::Noise;
 use noisy::{ENERGY, EPS, NOISE, R, Theirs};
 use slip::Slip;
+use std::cmp::Ordering;
 use std::io::Write;
 
 mod board;
@@ -429,26 +430,32 @@ fn drifts(put: Put) {
 // The answer is a digest: h = seed; after each put h = mix64(h xor (number + 256 * count)), the number being the put's answer, 0 or the
 // refusal's (13, not 2^32 + 13), and the count as the put left it, before it is set back; at the end, for each of the 22,528 bytes of the
 // board, the first one first, h = mix64(h xor byte).
+/// The slip of put j.
+fn board_slip(seed: u64, j: u64, style: u64) -> Slip {
+    let x = drawn(seed, j as usize);
+    let y = air::mix64(x);
+    let z = air::mix64(y);
+    let (kind, outcome) = ((x / 2 % 3) as u8, (x / 8 % if style > 3 { 4 } else { 3 }) as u8);
+    Slip {
+        mode: (x % 2) as u8,
+        kind,
+        word: z >> if kind == 1 { 0 } else { 16 },
+        outcome,
+        pass: pass_of(outcome, x / 32),
+        score: (y % 2) as u32 * 0x8000_0000 + (y / 2 % 0x7F80_0000) as u32,
+        start: (x >> 8) % 4 << 62 ^ (x >> 10) % 2,
+        segment: if style % 2 == 1 { (x >> 16) % 2048 * 31 } else { (x >> 16) % 8 } as u16,
+    }
+}
+
+/// The digest of the whole series.
 fn board_digest(asked: u64) -> u64 {
     let (seed, n, style) = (asked % REFUSED, (asked >> 32) % 65536, (asked >> 48) % 8);
     let mut board = Board { bytes: (0..board::BYTES as u64).map(|i| air::mix64(seed ^ i) as u8).collect(), count: 0 };
     let mut h = seed;
     for j in 0..n {
-        let x = drawn(seed, j as usize);
-        let y = air::mix64(x);
-        let z = air::mix64(y);
-        let (w, kind, outcome) = (air::mix64(z), (x / 2 % 3) as u8, (x / 8 % if style > 3 { 4 } else { 3 }) as u8);
-        let slip = Slip {
-            mode: (x % 2) as u8,
-            kind,
-            word: z >> if kind == 1 { 0 } else { 16 },
-            outcome,
-            pass: pass_of(outcome, x / 32),
-            score: (y % 2) as u32 * 0x8000_0000 + (y / 2 % 0x7F80_0000) as u32,
-            start: (x >> 8) % 4 << 62 ^ (x >> 10) % 2,
-            segment: if style % 2 == 1 { (x >> 16) % 2048 * 31 } else { (x >> 16) % 8 } as u16,
-        };
-        let mut string = [slip.written(44).unwrap(), vec![0]].concat();
+        let w = (0..4).fold(seed ^ j << 32, |word, _| air::mix64(word));
+        let mut string = [board_slip(seed, j, style).written(44).unwrap(), vec![0]].concat();
         let (number, bit, was) = ((w >> 8) as usize, 1u8 << (w >> 16) % 8, board.count);
         let (mut part, mut last, mut at) = (44, None, None);
         match if style % 4 > 1 { w % 16 } else { 15 } {
@@ -475,7 +482,8 @@ fn board_digest(asked: u64) -> u64 {
     board.bytes.iter().fold(h, |h, &b| air::mix64(h ^ b as u64))
 }
 
-/// Document 02, #105: few segments, boards that fill, and both with damage; #107: the same with Likely slips.
+/// Document 02, #105: few segments, boards that fill, and both with damage; #107: the same with Likely slips; #110: two slips of one segment
+/// in each of the nine ways in which the new one's reading and start can be to the listed one's.
 fn boards(put: Put) {
     let few = [0, 1, 2, 3, 4, 6, 9, 14, 20, 40, 70, 120].map(|n| (0, n));
     let many = [1, 2, 3, 10, 100, 250, 400, 550, 600, 650, 700, 700].map(|n| (1, n));
@@ -484,6 +492,15 @@ fn boards(put: Put) {
     let likely = [(4, 2), (4, 4), (4, 9), (4, 20), (4, 120), (5, 100), (5, 600), (5, 700), (6, 8), (6, 30), (6, 120), (7, 400), (7, 1600)];
     for ((style, n), seed) in few.into_iter().chain(many).chain(few_damaged).chain(many_damaged).chain(likely).zip(10_500u64..) {
         let asked = seed | n << 32 | style << 48;
+        put(200, asked, board_digest(asked));
+    }
+    let ways = [Ordering::Less, Ordering::Equal, Ordering::Greater];
+    for way in ways.map(|reading| ways.map(|start| (reading, start))).as_flattened() {
+        let is_met = |&seed: &u64| {
+            let [listed, new] = [0, 1].map(|j| board_slip(seed, j, 4));
+            listed.segment == new.segment && (rank(new.outcome).cmp(&rank(listed.outcome)), new.start.cmp(&listed.start)) == *way
+        };
+        let asked = (11_000..).find(is_met).unwrap() | 2 << 32 | 4 << 48;
         put(200, asked, board_digest(asked));
     }
 }

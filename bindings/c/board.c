@@ -29,10 +29,11 @@ static int shows(uint32_t i, uint16_t segment, uint64_t start, uint8_t outcome) 
 int main(void) {
     static const char *const reading[] = {[ION_SURE] = "Sure", [ION_KEPT] = "Kept", [ION_OPEN] = "Open", [ION_LIKELY] = "Likely"};
     ion_slip s;
-    /* segment 9 comes later once, then earlier; segment 4 is read better twice, then worse, at one start; segment 12 comes but once */
+    /* segment 9 comes later but reads worse; segment 4 reads better at one start, then worse, then better at an earlier start; segment 12
+     * reads alike each time, later once and then earlier */
     static const struct { uint16_t segment; uint32_t start; uint8_t outcome; } arrived[] = {
-        {9, 48000, ION_SURE}, {4, 52000, ION_OPEN}, {9, 56000, ION_KEPT}, {12, 50000, ION_OPEN},
-        {9, 48000, ION_SURE}, {4, 52000, ION_KEPT}, {4, 52000, ION_LIKELY}, {4, 52000, ION_KEPT}, {4, 52000, ION_OPEN},
+        {9, 48000, ION_LIKELY}, {4, 52000, ION_OPEN}, {9, 56000, ION_KEPT}, {12, 50000, ION_OPEN},
+        {4, 52000, ION_KEPT}, {4, 52000, ION_OPEN}, {4, 51000, ION_SURE}, {12, 54000, ION_OPEN}, {12, 53000, ION_OPEN},
     };
     int right = 1;
     for (size_t i = 0; i < sizeof arrived / sizeof *arrived; i++)
@@ -40,7 +41,7 @@ int main(void) {
     for (uint32_t i = 0; i < count; i++)
         if (ion_slip_from_bytes(&s, board + i * ION_SLIP, ION_SLIP) == 0)
             printf("segment %u start %llu %s\n", s.segment, (unsigned long long)s.start, reading[s.outcome]);
-    right = right && count == 3 && shows(0, 4, 52000, ION_LIKELY) && shows(1, 9, 56000, ION_KEPT) && shows(2, 12, 50000, ION_OPEN);
+    right = right && count == 3 && shows(0, 4, 51000, ION_SURE) && shows(1, 9, 48000, ION_LIKELY) && shows(2, 12, 54000, ION_OPEN);
 
     /* no slip at all; then a count that takes in a place which holds none: the board and its count stay as they were */
     memcpy(as_it_was, board, ION_BOARD_BYTES);
@@ -54,7 +55,7 @@ int main(void) {
     for (uint16_t segment = 0; segment < ION_BOARD_PLACES; segment++)
         right = put(segment, 0, ION_OPEN) == 0 && right;
     uint32_t full = put(ION_BOARD_PLACES, 60000, ION_SURE);
-    right = right && count == ION_BOARD_PLACES && shows(9, 9, 56000, ION_KEPT);
+    right = right && count == ION_BOARD_PLACES && shows(9, 9, 48000, ION_LIKELY);
     right = right && put(511, 60000, ION_SURE) == 0 && shows(511, 511, 60000, ION_SURE);
     printf("no bytes, a place that is no slip, a 513th segment: refused by numbers %u, %u and %u, %s\n", none, broken, full,
            ion_refusal(full));

@@ -4,6 +4,7 @@ use crate::check::Check;
 use crate::face;
 use crate::inputs::{Dice, SEGMENTS, board_of, break_board, damage_slip, left_over, segment_near, segments, slip_for};
 use crate::jobs::{Job, Oracle};
+use std::cmp::Ordering;
 
 /// One put by both, ours over the bytes and the count lent.
 fn put(c: &mut Check, bytes: &mut [u8], count: &mut u32, second: &mut Board, mut slip: Vec<u8>) {
@@ -13,11 +14,18 @@ fn put(c: &mut Check, bytes: &mut [u8], count: &mut u32, second: &mut Board, mut
     c.one("count", count, second.count);
     c.list("the board", bytes, &second.bytes);
     c.list("the slip", &mut slip, &string);
-    match theirs {
-        0 if second.count > was.count => c.answered(0),
-        0 if second.bytes != was.bytes => c.answered(1),
-        0 => c.answered(2),
-        k => c.refused(k),
+    // a slip's start and segment
+    let (start, segment) = (31..39, 42..44);
+    let listed = was.bytes.chunks(44).take(was.count as usize).find(|place| theirs == 0 && place[segment.clone()] == string[segment.clone()]);
+    match (theirs, listed.map(|place| string[start.clone()].cmp(&place[start]))) {
+        (0, None) => c.answered(0),
+        (0, Some(by_start)) => match (second.bytes != was.bytes, by_start) {
+            (true, Ordering::Less) => c.answered(3),
+            (false, Ordering::Greater) => c.answered(4),
+            (true, _) => c.answered(1),
+            (false, _) => c.answered(2),
+        },
+        (k, _) => c.refused(k),
     }
     c.input(|| format!("{string:02x?} on a board of {} bytes with a count of {}", was.bytes.len(), was.count));
 }
@@ -73,7 +81,7 @@ fn full(_: &Oracle, d: &mut Dice, i: u64, c: &mut Check) {
 
 pub fn jobs() -> Vec<Job> {
     let job = |source, inputs, numbers, cost, one| {
-        let kinds = &["listed", "replaced", "remained"];
+        let kinds = &["listed", "replaced", "remained", "replaced by an earlier", "remained before a later"];
         Job { entry: "slip put", source, inputs, kinds, numbers, cost, one }
     };
     vec![

@@ -15,14 +15,15 @@ fn slip(segment: u16, start: u64, outcome: Outcome) -> Slip {
 
 fn main() -> Result<(), Refusal> {
     let mut board = Board::new();
-    // segment 9 comes later once, then earlier; segment 4 is read better twice, then worse, at one start; segment 12 comes but once
-    let first = [slip(9, 48_000, SURE), slip(4, 52_000, OPEN), slip(9, 56_000, KEPT), slip(12, 50_000, OPEN)];
-    let then = [slip(9, 48_000, SURE), slip(4, 52_000, KEPT), slip(4, 52_000, LIKELY), slip(4, 52_000, KEPT), slip(4, 52_000, OPEN)];
+    // segment 9 comes later but reads worse; segment 4 reads better at one start, then worse, then better at an earlier start; segment 12
+    // reads alike each time, later once and then earlier
+    let first = [slip(9, 48_000, LIKELY), slip(4, 52_000, OPEN), slip(9, 56_000, KEPT), slip(12, 50_000, OPEN)];
+    let then = [slip(4, 52_000, KEPT), slip(4, 52_000, OPEN), slip(4, 51_000, SURE), slip(12, 54_000, OPEN), slip(12, 53_000, OPEN)];
     first.iter().chain(&then).try_for_each(|s| board.put_slip(s))?;
     for slip in board.slips() {
         println!("segment {} start {} {:?}", slip.segment, slip.start, slip.outcome);
     }
-    assert!(board.slips().eq([slip(4, 52_000, LIKELY), slip(9, 56_000, KEPT), slip(12, 50_000, OPEN)]));
+    assert!(board.slips().eq([slip(4, 51_000, SURE), slip(9, 48_000, LIKELY), slip(12, 54_000, OPEN)]));
 
     // a listed segment is judged on a full board as on any other; one more is refused, and changes nothing
     for segment in 0..SEGMENTS as u16 {

@@ -54,16 +54,16 @@ mod sys {
             mode: u8, kind: u8, rows: u32, energies: *const f32, energies_len: usize, noise: *const f32, noise_len: usize, eps: f32, r: f32,
             factors: *mut f32, factors_len: usize,
         ) -> u32;
-        pub fn ion_version_109() -> u32;
+        pub fn ion_version_110() -> u32;
     }
 }
 
 /// The number of the last change request that is in; 0 is the base. The library has it in a symbol's name, so a library of another
 /// version does not link.
-pub const VERSION: u32 = 109;
+pub const VERSION: u32 = 110;
 
 #[used]
-static VERSION_LINKED: unsafe extern "C" fn() -> u32 = sys::ion_version_109;
+static VERSION_LINKED: unsafe extern "C" fn() -> u32 = sys::ion_version_110;
 
 /// Terms of a symbol: five rows of 52.
 pub const TERMS: usize = 260;
@@ -579,13 +579,16 @@ pub fn put_slip(board: &mut [u8], count: &mut u32, slip: &[u8]) -> Result<(), Re
 
 /// What the planner's screen shows: one slip a segment, segments rising, at most [`SEGMENTS`].
 ///
-/// A slip for a listed segment takes the listed one's place where its start is later, or where both starts are equal and its reading is
-/// better: Sure is better than Likely, Likely than Kept, and Kept than Open, whatever the pass and the score. Else the listed one remains. A
-/// slip for another segment is listed in order.
+/// A slip for a listed segment takes the listed one's place where its reading is better, whichever start is the later, or where both readings
+/// are equal and its start is later: Sure is better than Likely, Likely than Kept, and Kept than Open, whatever the pass and the score. Else
+/// the listed one remains, also where the new one is later but reads worse. A slip for another segment is listed in order.
 ///
 /// Proved: after any series of puts, those refused set aside, each segment shows the slip that these rules leave of its own slips in order of
-/// arrival. A segment once listed stays listed, so of one segment's slips all are accepted or none: the first 512 different segments that
-/// come are listed.
+/// arrival, which is the one that came first of those that read best and, of these, start latest. A segment once listed stays listed, so of
+/// one segment's slips all are accepted or none: the first 512 different segments that come are listed.
+///
+/// Before version 110 the start was tried first. A board from then is taken as it is ([`Board::from_bytes`]): what it shows is judged against
+/// further slips by the order above, and what it passed over is not on it.
 ///
 /// ```
 /// use ion_proved::{Board, Kind, Mode, Outcome, Refusal, SEGMENTS, Slip};
@@ -597,16 +600,17 @@ pub fn put_slip(board: &mut [u8], count: &mut u32, slip: &[u8]) -> Result<(), Re
 /// board.put_slip(&slip(3, 50_000, sure))?;
 /// assert_eq!(board.slips().map(|s| s.segment).collect::<Vec<_>>(), [3, 7]);
 ///
-/// // a better reading of the same start replaces, a worse one does not; a later start does, whatever its reading
+/// // a better reading replaces, at an earlier start too; a worse one does not, at a later start neither
 /// board.put_slip(&slip(7, 48_000, likely))?;
-/// board.put_slip(&slip(7, 48_000, kept))?;
-/// assert_eq!(board.get(7), Some(slip(7, 48_000, likely)));
-/// board.put_slip(&slip(7, 48_000, sure))?;
-/// board.put_slip(&slip(7, 48_000, likely))?;
-/// assert_eq!(board.get(7), Some(slip(7, 48_000, sure)));
 /// board.put_slip(&slip(7, 48_001, kept))?;
+/// assert_eq!(board.get(7), Some(slip(7, 48_000, likely)));
+/// board.put_slip(&slip(7, 47_999, sure))?;
+/// board.put_slip(&slip(7, 48_001, likely))?;
+/// assert_eq!(board.get(7), Some(slip(7, 47_999, sure)));
+/// // of equal readings the later start is shown
+/// board.put_slip(&slip(7, 48_001, sure))?;
 /// board.put_slip(&slip(7, 48_000, sure))?;
-/// assert_eq!(board.get(7), Some(slip(7, 48_001, kept)));
+/// assert_eq!(board.get(7), Some(slip(7, 48_001, sure)));
 /// assert_eq!((board.len(), board.get(4)), (2, None));
 ///
 /// // refused, and as it was

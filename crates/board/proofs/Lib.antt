@@ -6,5 +6,6 @@ pub mod Turn
 pub mod Answers
 pub mod Series
 pub mod Yard
+pub mod Changed
 pub mod Past
 pub mod Refused

@@ -1,4 +1,4 @@
--- Document 02, #105 and #107: the yard's rules, by which a new slip for a listed segment is judged.
+-- Document 02, #105, #107 and #110: the yard's two rules, by which a new slip for a listed segment is judged.
 use Prim.Native.Nat.{ℕ}
 use mathlib.Core.Bool.{Bool, true, false}
 use mathlib.Core.List.{List}
@@ -29,12 +29,20 @@ rank (Open x) = 3
 abbrev pub rankOf : Fields → ℕ
 rankOf f = rank (outcomeAt (f .outcome) (f .pass) (f .score))
 
--- the start is tried first: a later one replaces an earlier one. Between equal starts a better reading replaces a worse one. If both are
--- equal the listed slip remains.
-abbrev pub startFirst : Rule
-startFirst listed new = choose (eqb (listed .start) (new .start)) (ltb (rankOf new) (rankOf listed)) (ltb (listed .start) (new .start))
+-- a better reading replaces a worse one
+abbrev pub better : Rule
+better listed new = ltb (rankOf new) (rankOf listed)
 
--- ---- what a rule that orders slips has: none replaces itself, and what does not replace a slip does not replace one that did
+-- a later start sample replaces an earlier one
+abbrev pub later : Rule
+later listed new = ltb (listed .start) (new .start)
+
+-- reading first, start between equal readings, the listed slip if both are equal (#110)
+abbrev pub readingFirst : Rule
+readingFirst listed new = choose (eqb (rankOf new) (rankOf listed)) (later listed new) (better listed new)
+
+-- ---- what a rule that orders slips has: of two slips at most one replaces the other, and what replaces a slip replaces each one that
+-- does not replace that slip
 pub record Orders (rule : Rule) : Type 0 where
-  pub not-itself : (f : Fields) → rule f f ≡ false
-  pub onward : (f g h : Fields) → rule f g ≡ true → rule f h ≡ false → rule g h ≡ false
+  pub one-way : (f g : Fields) → rule f g ≡ true → rule g f ≡ false
+  pub onward : (f g h : Fields) → rule f g ≡ true → rule f h ≡ false → rule h g ≡ true

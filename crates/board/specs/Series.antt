@@ -1,7 +1,7 @@
--- Document 02, #105: any series of byte strings, put one after another.
+-- Document 02, #105 and #110: any series of byte strings, put one after another.
 use Prim.Native.Nat.{ℕ, _*_}
 use mathlib.Core.Bool.{Bool, true, false, not, _&&_}
-use mathlib.Core.List.{List, [], _∷_, map}
+use mathlib.Core.List.{List, [], _∷_, _++_, map}
 use mathlib.Core.Option.{Option, none, some}
 use mathlib.Core.Path.{_≡_}
 use lib.Dec.{eqb, ltb}
@@ -9,7 +9,7 @@ use lib.ListN.{length}
 use Rattle.util.specs.Choose.{choose}
 use Rattle.util.specs.Some.{someOf}
 use Rattle.util.specs.Refusal.{Outcome, refused, accepted}
-use Rattle.slip.specs.Slips.{isSlip}
+use Rattle.slip.specs.Slips.{taken, isSlip}
 use Rattle.board.specs.Places.{places, segmentOf, goodBoard, isListed, shown}
 use Rattle.board.specs.Rules.{Rule, judge}
 use Rattle.board.specs.Putting.{putting, boardAfter, countAfter}
@@ -99,3 +99,13 @@ pub record After (rule : Rule) (bytes : List ℕ) (xs : List (List ℕ)) : Type 
   -- which are all its slips where it is listed
   pub shows-all : (g : ℕ) → shown g (listed (ran rule (empty bytes) xs))
       ≡ choose (has g (firsts 512 [] xs)) (left rule none (those (λ x. isSlip x && isOf g x) xs)) none
+
+-- ---- what is left of a segment's slips where a rule orders them
+
+-- the first of the best: it would replace every one ahead of it, and none behind it would replace it
+pub record FirstOfBest (rule : Rule) (xs : List (List ℕ)) (l : List ℕ) : Type 0 where
+  pub ahead : List (List ℕ)
+  pub behind : List (List ℕ)
+  pub stands : xs ≡ ahead ++ (l ∷ behind)
+  pub above : someOf (λ y. not (rule (taken y) (taken l))) ahead ≡ false
+  pub unbeaten : someOf (λ y. rule (taken l) (taken y)) behind ≡ false

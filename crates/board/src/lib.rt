@@ -1,6 +1,6 @@
-// The segment board (document 02, #105, #107): one slip a segment, segments rising, over 512 lent places of 44 bytes with a count. What a put
-// leaves and refuses is in specs/Putting.antt, what a board shows after any series of slips in specs/Series.antt (`After`, proved in
-// proofs/Series.antt, under any rule).
+// The segment board (document 02, #105, #107, #110): one slip a segment, segments rising, over 512 lent places of 44 bytes with a count.
+// What a put leaves and refuses is in specs/Putting.antt, what a board shows after any series of slips in specs/Series.antt (`After`, proved
+// in proofs/Series.antt under any rule, in proofs/Yard.antt under the one that is in force).
 ghost use Prim.Native.Nat.{suc, _-_, _*_, _^_, _≤_, _<_};
 ghost use mathlib.Core.Bool.{true, _&&_};
 ghost use mathlib.Core.List.{_++_};
@@ -12,7 +12,7 @@ ghost use Rattle.header.specs.Read.{outcomeIs};
 ghost use Rattle.slip.specs.Slips.{isSlip, taken};
 ghost use Rattle.board.specs.Places.{places, placeAt, segmentOf, rising, goodBoard, isListed, before};
 ghost use Rattle.board.specs.Rules as Rules;
-ghost use Rattle.board.specs.Rules.{startFirst, rankOf};
+ghost use Rattle.board.specs.Rules.{readingFirst, rankOf};
 ghost use Rattle.board.specs.Putting.{putIs, putting, replaced, inserted, boardAfter, countAfter};
 
 // The slip was put, or judged and not taken; or the refusal's number.
@@ -41,14 +41,18 @@ fn rank_of(f: slip::Fields) -> u8
     rank(outcome::from_numbers(f.outcome, f.pass, f.score))
 }
 
-// Whether the new slip replaces the listed one: the start is tried first, the reading only between equal starts.
+// Whether the new slip replaces the listed one: the reading is tried first, the start only between equal readings.
 fn replaces(listed: slip::Fields, new: slip::Fields) -> bool
-    ensures { λ r. ⌜ r ≡ startFirst listed new ⌝ }
+    ensures { λ r. ⌜ r ≡ readingFirst listed new ⌝ }
 {
-    if listed.start == new.start {
-        return rank_of(new) < rank_of(listed);
+    let listed_start = listed.start;
+    let new_start = new.start;
+    let listed_rank = rank_of(listed);
+    let new_rank = rank_of(new);
+    if new_rank == listed_rank {
+        return listed_start < new_start;
     }
-    listed.start < new.start
+    new_rank < listed_rank
 }
 
 // ---- what is lent
@@ -168,7 +172,7 @@ fn insert(part: &mut [u8], slip: &[u8])
 // The new slip is judged against the listed one of a place.
 fn judge(board: &mut [u8], place: usize, slip: &[u8])
     requires { ⌜ (44 * suc place ≤ length (now board)) × (length (now slip) ≡ 44) ⌝ }
-    ensures { λ _. ⌜ now (board .exit) ≡ choose (startFirst (taken (placeAt (now (board .entry)) place)) (taken (now (slip .entry))))
+    ensures { λ _. ⌜ now (board .exit) ≡ choose (readingFirst (taken (placeAt (now (board .entry)) place)) (taken (now (slip .entry))))
         (replaced (now (board .entry)) place (now (slip .entry))) (now (board .entry)) ⌝ }
 {
     let at = 44 * place;
@@ -195,7 +199,7 @@ fn insert_at(board: &mut [u8], count: usize, place: usize, slip: &[u8])
 fn put_in(board: &mut [u8], count: &mut u32, slip: &[u8]) -> Put
     requires { ⌜ (length (now board) ≡ 44 * 512) × ((goodBoard (now board) (now count) ≡ true) × (isSlip (now slip) ≡ true)) ⌝ }
     ensures answer { λ r. ⌜ putIs r ≡ putting (now (board .entry)) (now (count .entry)) (now (slip .entry)) ⌝ }
-    ensures lent { λ _. ⌜ now (board .exit) ≡ boardAfter startFirst (now (board .entry)) (now (count .entry)) (now (slip .entry)) ⌝ }
+    ensures lent { λ _. ⌜ now (board .exit) ≡ boardAfter readingFirst (now (board .entry)) (now (count .entry)) (now (slip .entry)) ⌝ }
     ensures counted { λ _. ⌜ now (count .exit) ≡ countAfter (now (board .entry)) (now (count .entry)) (now (slip .entry)) ⌝ }
 {
     let listed = *count as usize;
@@ -217,7 +221,7 @@ fn put_in(board: &mut [u8], count: &mut u32, slip: &[u8]) -> Put
 // segment fills, written.
 pub fn put_slip(board: &mut [u8], count: &mut u32, slip: &[u8]) -> Put
     ensures answer { λ r. ⌜ putIs r ≡ putting (now (board .entry)) (now (count .entry)) (now (slip .entry)) ⌝ }
-    ensures lent { λ _. ⌜ now (board .exit) ≡ boardAfter startFirst (now (board .entry)) (now (count .entry)) (now (slip .entry)) ⌝ }
+    ensures lent { λ _. ⌜ now (board .exit) ≡ boardAfter readingFirst (now (board .entry)) (now (count .entry)) (now (slip .entry)) ⌝ }
     ensures counted { λ _. ⌜ now (count .exit) ≡ countAfter (now (board .entry)) (now (count .entry)) (now (slip .entry)) ⌝ }
 {
     if board.len() != 22528 {

@@ -11,7 +11,7 @@ use Rattle.util.proofs.Choose.{chosen, not-chosen}
 use Rattle.slip.specs.Slips.{taken}
 use Rattle.slip.specs.declared.Fields.{Fields}
 use Rattle.board.specs.Places.{placeAt}
-use Rattle.board.specs.Rules.{startFirst}
+use Rattle.board.specs.Rules.{readingFirst}
 use Rattle.board.specs.Putting.{replaced}
 use Rattle.board.proofs.Places.{part}
 use Rattle.board.proofs.judge.Statement.{statement}
@@ -26,8 +26,8 @@ put-back b s y p e =
 
 -- what the rule says of the slip at the place and of the new one, by their values as they were taken
 decided : (b s : List ℕ) (p : ℕ) (listed new : Fields) (t : Bool) → listed ≡ taken (take (44 * p + 44 - 44 * p) (drop (44 * p) b))
-    → new ≡ taken s → t ≡ startFirst listed new → startFirst (taken (placeAt b p)) (taken s) ≡ t
-decided b s p listed new t e f q = sym (q ∙ ap₂ startFirst (e ∙ ap taken (part p b)) f)
+    → new ≡ taken s → t ≡ readingFirst listed new → readingFirst (taken (placeAt b p)) (taken s) ≡ t
+decided b s p listed new t e f q = sym (q ∙ ap₂ readingFirst (e ∙ ap taken (part p b)) f)
 
 mul-at : tie.Need-mul-at
 mul-at c = search needs

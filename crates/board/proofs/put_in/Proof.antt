@@ -8,7 +8,7 @@ use borrow.Author.Needs.{needs}
 use lib.ListN.{length}
 use Rattle.slip.proofs.Slips.{length-slip}
 use Rattle.board.specs.Places.{places, goodBoard, isListed, before}
-use Rattle.board.specs.Rules.{startFirst}
+use Rattle.board.specs.Rules.{readingFirst}
 use Rattle.board.proofs.Turn.{most, rises, place-listed, place-within}
 use Rattle.board.proofs.Answers.{judged, no-room, put-before}
 use Rattle.board.proofs.put_in.Statement.{statement}
@@ -64,7 +64,7 @@ returns c =
     let first = found .before .before in
     let start = first .before .before .before .before in
     let a = start .args in
-    judged startFirst (a .board .now) (a .slip .now) (a .count .now) _ _ (start .pre .0) (start .pre .1 .0) (start .pre .1 .1)
+    judged readingFirst (a .board .now) (a .slip .now) (a .count .now) _ _ (start .pre .0) (start .pre .1 .0) (start .pre .1 .1)
     (first .segment-of .ensures .0) (found .place-for .ensures) _ (sym (tested .is-at .ensures) ∙ then .if1 .taken) (done .judge .ensures)
 
 same-length-2 : tie.Need-same-length-2
@@ -78,7 +78,7 @@ returns-2 c =
     let first = found .before .before in
     let start = first .before .before .before .before in
     let a = start .args in
-    no-room startFirst (a .board .now) (a .slip .now) (a .count .now) _ _ (start .pre .0) (start .pre .1 .0) (start .pre .1 .1)
+    no-room readingFirst (a .board .now) (a .slip .now) (a .count .now) _ _ (start .pre .0) (start .pre .1 .0) (start .pre .1 .1)
     (first .segment-of .ensures .0) (found .place-for .ensures) (sym (tested .is-at .ensures) ∙ else .if1 .left) (c .if2 .taken)
 
 insert-at-requires : tie.Need-insert-at-requires
@@ -113,7 +113,7 @@ returns-3 c =
     let first = found .before .before in
     let start = first .before .before .before .before in
     let a = start .args in
-    put-before startFirst (a .board .now) (a .slip .now) (a .count .now) _ _ (start .pre .0) (start .pre .1 .0) (start .pre .1 .1)
+    put-before readingFirst (a .board .now) (a .slip .now) (a .count .now) _ _ (start .pre .0) (start .pre .1 .0) (start .pre .1 .1)
     (first .segment-of .ensures .0) (found .place-for .ensures) _ (sym (tested .is-at .ensures) ∙ else .if1 .left) (room .if2 .left) (done .insert-at .ensures)
 
 pub put-in-spec : {M : Type 1} → statement M

@@ -3,7 +3,7 @@ use mathlib.Core.Path.{sym, _∙_}
 use native.Mathlib.Omega.{arith}
 use borrow.Author.Needs.{needs}
 use borrow.Author.Tests.{not-true, not-false}
-use Rattle.board.specs.Rules.{startFirst}
+use Rattle.board.specs.Rules.{readingFirst}
 use Rattle.board.proofs.Turn.{good-board}
 use Rattle.board.proofs.Answers.{other-length, too-many, not-rising, no-slip}
 use Rattle.board.proofs.put_slip.Statement.{statement}
@@ -12,13 +12,13 @@ use Rattle.board.proofs.put_slip.Tie as tie
 returns : tie.Need-returns
 returns c =
     let a = c .before .before .before .args in
-    other-length startFirst (a .board .now) (a .slip .now) (a .count .now) (c .if1 .taken)
+    other-length readingFirst (a .board .now) (a .slip .now) (a .count .now) (c .if1 .taken)
 
 returns-2 : tie.Need-returns-2
 returns-2 c =
     let long = c .before .before in
     let a = long .before .before .before .args in
-    too-many startFirst (a .board .now) (a .slip .now) (a .count .now) (long .if1 .left) (c .if2 .taken)
+    too-many readingFirst (a .board .now) (a .slip .now) (a .count .now) (long .if1 .left) (c .if2 .taken)
 
 is-rising-requires : tie.Need-is-rising-requires
 is-rising-requires c κs = search needs
@@ -32,7 +32,7 @@ returns-3 c =
     let few = tested .before .before .before in
     let long = few .before .before in
     let a = long .before .before .before .args in
-    not-rising startFirst (a .board .now) (a .slip .now) (a .count .now) (long .if1 .left)
+    not-rising readingFirst (a .board .now) (a .slip .now) (a .count .now) (long .if1 .left)
     (sym (tested .is-rising .ensures) ∙ not-true _ (c .if3 .taken))
 
 is-slip-requires : tie.Need-is-slip-requires
@@ -46,7 +46,7 @@ returns-4 c =
     let read = c .before in
     let long = read .before .before .before .before .before .before .before in
     let a = long .before .before .before .args in
-    no-slip startFirst (a .board .now) (a .slip .now) (a .count .now) (long .if1 .left)
+    no-slip readingFirst (a .board .now) (a .slip .now) (a .count .now) (long .if1 .left)
     (sym (read .is-slip .ensures) ∙ not-true _ (c .if4 .taken))
 
 put-in-requires : tie.Need-put-in-requires
