@@ -70,13 +70,14 @@ fn judged_before(listed: Slip, new: Slip) -> Slip {
 /// What a segment must show of its own slips, in order of arrival: what the two rules leave of them one after another; which is the first of
 /// those that read best and of these are the latest; and, where none of them is later than another but reads worse, what #105's order left.
 fn shows(s: &mut Section, own: &[Slip], place: &[u8], input: impl Fn() -> String) {
+    let is_other = |slip: Slip| (place != slip.written(44).unwrap()) as u64;
     let left = own.iter().copied().reduce(judged).unwrap();
+    s.pair(is_other(left), 0, || format!("what is shown after {}", input()));
     let first_of_best = own.iter().rev().max_by(|a, b| reading(a, b).then(a.start.cmp(&b.start))).unwrap();
-    s.pair((place != left.written(44).unwrap()) as u64, 0, || format!("what is shown after {}", input()));
-    s.pair((left != *first_of_best) as u64, 0, || format!("the first of the best of {}", input()));
+    s.pair(is_other(*first_of_best), 0, || format!("the first of the best of {}", input()));
     if !own.iter().any(|a| own.iter().any(|b| a.start > b.start && reading(a, b) == Ordering::Less)) {
         let before = own.iter().copied().reduce(judged_before).unwrap();
-        s.pair((left != before) as u64, 0, || format!("none at odds in {}", input()));
+        s.pair(is_other(before), 0, || format!("none at odds in {}", input()));
     }
 }
 

@@ -430,6 +430,7 @@ fn drifts(put: Put) {
 // The answer is a digest: h = seed; after each put h = mix64(h xor (number + 256 * count)), the number being the put's answer, 0 or the
 // refusal's (13, not 2^32 + 13), and the count as the put left it, before it is set back; at the end, for each of the 22,528 bytes of the
 // board, the first one first, h = mix64(h xor byte).
+
 /// The slip of put j.
 fn board_slip(seed: u64, j: u64, style: u64) -> Slip {
     let x = drawn(seed, j as usize);
