@@ -191,7 +191,7 @@ static inline uint32_t ion_slip_from_bytes(ion_slip *s, const uint8_t *slip, siz
  *   put a second time.
  * - Its segment is not listed: it is put where segments go on rising, those behind it move up by one place, and *count grows by one.
  * 0 is returned in each of these cases.
- * Proved: after any series of strings from an empty board, those refused set aside, the board shows for each segment the slip that the two
+ * Proved: after any series of strings from an empty board, those refused set aside, the board shows for each listed segment what the two
  * rules leave of the segment's own slips in order of arrival: of those that read best the one that starts latest, and of several such the one
  * that came first. A segment once listed stays listed: so of one segment's slips all are accepted or none, and listed are the first 512
  * different segments that came. No put of such a series is refused for its board.

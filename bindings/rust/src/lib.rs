@@ -583,9 +583,10 @@ pub fn put_slip(board: &mut [u8], count: &mut u32, slip: &[u8]) -> Result<(), Re
 /// are equal and its start is later: Sure is better than Likely, Likely than Kept, and Kept than Open, whatever the pass and the score. Else
 /// the listed one remains, also where the new one is later but reads worse. A slip for another segment is listed in order.
 ///
-/// Proved: after any series of puts, those refused set aside, each segment shows the slip that these rules leave of its own slips in order of
-/// arrival: of those that read best the one that starts latest, and of several such the one that came first. A segment once listed stays
-/// listed, so of one segment's slips all are accepted or none: the first 512 different segments that come are listed.
+/// Proved: after any series of puts from [`Board::new`], those refused set aside, each listed segment shows the slip that these rules leave of
+/// its own slips in order of arrival: of those that read best the one that starts latest, and of several such the one that came first. A
+/// segment once listed stays listed, so of one segment's slips all are accepted or none: the first 512 different segments that come are
+/// listed.
 ///
 /// Before version 110 the start was tried first. A board from then is taken as it is ([`Board::from_bytes`]): what it shows is judged against
 /// further slips by the order above, and what it passed over is not on it.
