@@ -10,7 +10,7 @@ case "${1:-}" in
 esac
 mkdir -p target
 rt staticlib ion >target/staticlib-ion.log 2>&1 || { cat target/staticlib-ion.log >&2; exit 1; }
-for name in read send narrow slip board noise; do
+for name in read labels send narrow slip board noise; do
     cc -std=c99 -Wall -Wextra -Werror -Iinclude "bindings/c/$name.c" target/staticlib/libion.a -o "target/$name"
     "target/$name"
 done
@@ -22,7 +22,7 @@ if cc -std=c99 -Itarget target/other.c target/staticlib/libion.a -o target/other
     echo "a header of another version links" >&2
     exit 1
 fi
-for name in read send narrow slip board noise; do
+for name in read labels send narrow slip board noise; do
     cargo run --quiet --offline --manifest-path bindings/rust/Cargo.toml --target-dir target/rust --example "$name"
 done
 cargo test --quiet --offline --manifest-path bindings/rust/Cargo.toml --target-dir target/rust

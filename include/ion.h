@@ -2,13 +2,13 @@
  * factors, proved: the functions of the static library libion.a (`rt staticlib ion`).
  *
  * Every function takes any numbers and any buffers of the lengths that are told, and ends. It returns 0, or the number of the
- * refusal (ion_refusal has a text for each); of several causes the one that comes first in the order 1, 12, 2, 3, 4, 5, 11, 6, 15, 7, 8,
- * 9, 10, 13, 14. Results and lent buffers are written only where 0 is returned.
+ * refusal (ion_refusal has a text for each); of several causes the one that comes first in the order 1, 12, 2, 3, 4, 16, 5, 11, 6, 15, 7,
+ * 8, 9, 10, 13, 14. Results and lent buffers are written only where 0 is returned.
  *
  * Buffers: a pointer must be valid for its length and aligned as its type asks; with length 0 it may be NULL. Lent buffers must
  * overlap neither each other nor an input. Nothing is kept between calls, so any threads may call at once over buffers of their own.
- * No function recurses or allocates; ion_local_noise takes 12 KiB of stack, ion_read_header 9, ion_track_timing 6, ion_fit_drift 3, the
- * others below 2.
+ * No function recurses or allocates; ion_local_noise takes 12 KiB of stack, ion_read_header and ion_read_header_with 9, ion_track_timing 6,
+ * ion_fit_drift 3, the others below 2.
  *
  * Terms: per symbol five rows of 52 floats, row 0 first, place 0 first in each: 260. Each is a natural logarithm: row j, place e has
  * ln(p(energy at place e | a tone j-2 places below it) / p(energy | noise alone)). Bin b of the mode's grid is place b+2. A value's
@@ -17,8 +17,8 @@
  * Layouts: a set runs layout k, 1 (the full band) to 8 (the narrowest): every duration is k times as long, every tone's distance from
  * the centre a k-th. Samples of the baseband, windows among them, are the receiver's own, one of 6k audio samples, so that a burst looks
  * alike in every layout. Two things depend on k: the start of a header's CRC, and how many audio samples lie behind a symbol. ion_crc and
- * ion_soft_values take it. A header's symbol values and a header read are the same in every layout: ion_header_values and ion_read_header
- * take none, and whoever sends or accepts a header works out its CRC in the layout in use.
+ * ion_soft_values take it. A header's symbol values and a header read are the same in every layout: ion_header_values, ion_read_header
+ * and ion_read_header_with take none, and whoever sends or accepts a header works out its CRC in the layout in use.
  */
 #ifndef ION_H
 #define ION_H
@@ -32,10 +32,10 @@ extern "C" {
 
 /* The number of the last change request that is in; 0 is the base. Answer, outcome and tracker will grow. The library has the number
  * in a symbol's name, which every file that includes this header asks for: a library of another version does not link. */
-#define ION_VERSION 110
-uint32_t ion_version_110(void);
+#define ION_VERSION 111
+uint32_t ion_version_111(void);
 #if defined(__GNUC__)
-__attribute__((used)) static uint32_t (*const ion_version)(void) = ion_version_110;
+__attribute__((used)) static uint32_t (*const ion_version)(void) = ion_version_111;
 #endif
 
 /* modes, kinds, the form of data, the first and the last layout, what was heard of a symbol, outcomes of a header read (from the best reading to
@@ -48,12 +48,13 @@ enum { ION_MISSED = 0, ION_HEARD = 1 };
 enum { ION_SURE = 0, ION_KEPT = 1, ION_OPEN = 2, ION_LIKELY = 3 };
 
 /* sizes: header symbols (n below, and as many header bits) by kind, data symbols of so many bits and their slots, terms and values of a
- * symbol, places of a score area, words of decisions for each header symbol, bytes of a slip, places and bytes of a board, places of a
- * row of energies, the most data bits, data symbols, CRC bits, calls of a tracker (and shifts), blocks, rows of energies */
+ * symbol, places of a score area, words of decisions for each header symbol, entries of a table of labels, bytes of a slip, places and bytes
+ * of a board, places of a row of energies, the most data bits, data symbols, CRC bits, calls of a tracker (and shifts), blocks, rows of
+ * energies */
 #define ION_HEADER_SYMBOLS(kind) ((kind) == ION_DATA ? 64 : 48)
 #define ION_DATA_SYMBOLS(bits) (((size_t)(bits) + 4) / 5)
 #define ION_SLOTS(bits) (5 * ION_DATA_SYMBOLS(bits))
-enum { ION_TERMS = 260, ION_VALUES = 32, ION_STATES = 16384, ION_DECISIONS = 256, ION_SLIP = 44 };
+enum { ION_TERMS = 260, ION_VALUES = 32, ION_STATES = 16384, ION_DECISIONS = 256, ION_LABELS = 32768, ION_SLIP = 44 };
 enum { ION_BOARD_PLACES = 512, ION_BOARD_BYTES = 22528, ION_PLACES = 52 };
 enum { ION_MOST_BITS = 10240, ION_MOST_SYMBOLS = 2048, ION_MOST_CRC_BITS = 1024, ION_MOST_CALLS = 2048, ION_MOST_BLOCKS = 64,
        ION_MOST_ROWS = 2048 };
@@ -77,6 +78,7 @@ static inline const char *ion_refusal(uint32_t number) {
         "bytes that are no slip, values that no slip holds, or a board that is broken",
         "a slip for an unlisted segment where 512 are listed",
         "over 2,048 rows, or eps, r, a noise or an energy out of range",
+        "a table of labels with an entry off the parity rule",
     };
     return number < sizeof text / sizeof *text ? text[number] : "no number of this library";
 }
@@ -146,15 +148,32 @@ uint32_t ion_read_header(uint8_t mode, uint8_t kind, const float *terms, size_t 
                          float *next, size_t next_len, float *start, size_t start_len, uint64_t *decisions, size_t decisions_len,
                          uint64_t *word, uint8_t *outcome, uint8_t *pass, float *score, float *ceiling);
 
+/* Fills a table of 32,768 labels, whatever was in it: entry r is the label of register r, of which bit i, from the lowest, is the parity of
+ * the ones in generator i AND r (octal 42101, 77127, 60225, 42073, 64667; a register's newest bit is the lowest). The table serves every
+ * ion_read_header_with of every mode, kind and layout, in any number of threads at once, and is never written by them.
+ * Refused: 4 (labels_len is not 32,768). */
+uint32_t ion_fill_labels(uint16_t *labels, size_t labels_len);
+
+/* Reads a header with labels filled in advance: in less time, and else as ion_read_header does. Every call tests the whole table: one that
+ * was made elsewhere is as good as a filled one, and one entry off is found out.
+ * Proved: with a table that is not refused the number, the answer and the areas are those of ion_read_header for the same mode, kind, terms
+ * and areas, and all that is proved of its answers holds of these, under the same conditions.
+ * Refused: 1, 4 (one of the six lengths), 16 (an entry of the table is not the label of its register), 6 (a term not finite or beyond
+ * +-1,000,000). */
+uint32_t ion_read_header_with(uint8_t mode, uint8_t kind, const float *terms, size_t terms_len, const uint16_t *labels, size_t labels_len,
+                              float *scores, size_t scores_len, float *next, size_t next_len, float *start, size_t start_len,
+                              uint64_t *decisions, size_t decisions_len, uint64_t *word, uint8_t *outcome, uint8_t *pass, float *score,
+                              float *ceiling);
+
 /* Writes a slip of 44 bytes: a header as read, with mode and kind, the sample at which its burst starts and its segment's number. Six fields,
  * each a tag of one byte, a length of two and the value, every number with its highest byte first:
  *   tag 1 mode, 1 byte; 2 kind, 1; 3 word, 8; 4 outcome, 6: the outcome, the pass, the score's four bytes; 5 start sample, 8; 6 segment, 2.
  * A slip holds: a mode and a kind that are named; a word with zeros above its 48 bits (64 for ION_DATA); ION_SURE with a pass of 1 to 3,
  * ION_LIKELY with 2 or 3, ION_KEPT or ION_OPEN with 0; a finite score (-0.0 is one, and has its own bytes); any start and segment. It has
  * neither the layout nor the ceiling, nor a verdict on the word's CRC, which ion_crc tells in the layout in use.
- * Proved: every answer of ion_read_header is such, with any start and segment. ion_read_slip gives back what was written, bit for bit. A slip
- * from before version 107 is written and read as it was; but there Sure says only that the word was out by closing: with pass 2 or 3
- * another one may beat it.
+ * Proved: every answer of ion_read_header, and so of ion_read_header_with, is such, with any start and segment. ion_read_slip gives back
+ * what was written, bit for bit. A slip from before version 107 is written and read as it was; but there Sure says only that the word was
+ * out by closing: with pass 2 or 3 another one may beat it.
  * Refused: 4 (slip_len is not 44), 13 (values that no slip holds, an outcome above 3 or a pass that does not go with it among them). */
 uint32_t ion_write_slip(uint8_t mode, uint8_t kind, uint64_t word, uint8_t outcome, uint8_t pass, float score, uint64_t start,
                         uint16_t segment, uint8_t *slip, size_t slip_len);

@@ -1,4 +1,4 @@
-// The clock of the programs that time the entries (bench.rs, against.rs), and the middle of what it told.
+// The clock of the programs that time the entries (bench.rs, header_times.rs, against.rs), and the middle of what it told.
 use std::hint::black_box;
 
 /// Milliseconds that this thread has had a core: what other work on the machine takes is not counted.

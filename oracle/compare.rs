@@ -7,6 +7,7 @@ mod drift;
 mod exact;
 mod face;
 mod inputs;
+mod labels;
 mod noise;
 mod noisy;
 mod read;
@@ -244,6 +245,8 @@ fn main() {
     noise::all(&mut wrong);
     soft::all(&mut wrong);
     let headers = std::env::args().nth(1).map_or(2_400, |n| n.parse().expect("how many headers of each style"));
+    labels::all(&mut wrong);
     read::all(&mut wrong, headers);
+    labels::unchanged(&mut wrong);
     std::process::exit(wrong as i32);
 }

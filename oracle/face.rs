@@ -12,6 +12,12 @@ unsafe extern "C" {
         mode: u8, kind: u8, terms: *const f32, terms_len: usize, scores: *mut f32, scores_len: usize, next: *mut f32, next_len: usize, start: *mut f32,
         start_len: usize, decisions: *mut u64, decisions_len: usize, word: *mut u64, outcome: *mut u8, pass: *mut u8, score: *mut f32, ceiling: *mut f32,
     ) -> u32;
+    fn ion_fill_labels(labels: *mut u16, labels_len: usize) -> u32;
+    fn ion_read_header_with(
+        mode: u8, kind: u8, terms: *const f32, terms_len: usize, labels: *const u16, labels_len: usize, scores: *mut f32, scores_len: usize, next: *mut f32,
+        next_len: usize, start: *mut f32, start_len: usize, decisions: *mut u64, decisions_len: usize, word: *mut u64, outcome: *mut u8, pass: *mut u8,
+        score: *mut f32, ceiling: *mut f32,
+    ) -> u32;
     fn ion_soft_values(
         mode: u8, kind: u8, layout: u8, symbols: u8, window: u32, bits: u32, terms: *const f32, terms_len: usize, blanked: *const u32, blanked_len: usize,
         work: *mut f32, work_len: usize, metrics: *mut f32, metrics_len: usize, soft: *mut f32, soft_len: usize,
@@ -53,6 +59,10 @@ pub fn interleave_sym(symbols: &[u8], values: &mut [u8]) -> u32 {
     unsafe { ion_interleave_sym(symbols.as_ptr(), symbols.len(), values.as_mut_ptr(), values.len()) }
 }
 
+pub fn fill_labels(labels: &mut [u16]) -> u32 {
+    unsafe { ion_fill_labels(labels.as_mut_ptr(), labels.len()) }
+}
+
 /// What is lent to a header read: three areas of scores and one of decisions, and the places of the answer.
 pub struct Header {
     pub scores: [Vec<f32>; 3],
@@ -75,6 +85,20 @@ impl Header {
             ion_read_header(
                 mode, kind, terms.as_ptr(), terms.len(), scores.as_mut_ptr(), scores.len(), next.as_mut_ptr(), next.len(), start.as_mut_ptr(), start.len(),
                 self.decisions.as_mut_ptr(), self.decisions.len(), &mut self.word, &mut self.outcome, &mut self.pass, &mut self.score, &mut self.ceiling,
+            )
+        }
+    }
+}
+
+impl Header {
+    /// The same with a lent table of labels.
+    pub fn read_with(&mut self, mode: u8, kind: u8, terms: &[f32], labels: &[u16]) -> u32 {
+        let [scores, next, start] = &mut self.scores;
+        unsafe {
+            ion_read_header_with(
+                mode, kind, terms.as_ptr(), terms.len(), labels.as_ptr(), labels.len(), scores.as_mut_ptr(), scores.len(), next.as_mut_ptr(), next.len(),
+                start.as_mut_ptr(), start.len(), self.decisions.as_mut_ptr(), self.decisions.len(), &mut self.word, &mut self.outcome, &mut self.pass,
+                &mut self.score, &mut self.ceiling,
             )
         }
     }

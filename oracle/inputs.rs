@@ -1,7 +1,8 @@
-// Inputs that more than one of the programs here draws: a stream of words, a header's terms in nine styles, terms and counts of soft
+// Inputs that more than one of the programs here draws: a stream of words, a header's terms in nine styles, tables of labels, terms and counts of soft
 // values in ten and five, the samples of a tracker's series in eight shapes, slips and strings that are none, and boards of them.
 #![allow(dead_code)] // no program draws all of them
 use super::slip::Slip;
+use ion::fec::conv::ConvCode;
 use ion::phy_mfsk::hook::{Fmt, Kind, MfskMode, Terms, air};
 
 /// A stream of words from a seed.
@@ -26,6 +27,16 @@ impl Dice {
     pub fn normal(&mut self) -> f32 {
         (0..12).map(|_| self.below(1 << 20) as f32 / (1 << 20) as f32).sum::<f32>() - 6.0
     }
+}
+
+/// The Rust's label of every register: what its encoder puts out when it has taken the register's fifteen bits, the oldest first.
+pub fn labels(c: &ConvCode) -> Vec<u16> {
+    (0..1u32 << 15).map(|r| c.encode_zt(&std::array::from_fn::<u8, 15, _>(|i| (r >> (14 - i) & 1) as u8), 29)[14]).collect()
+}
+
+/// The labels by document 01's words, of any five generators.
+pub fn labels_by(gens: [u32; 5]) -> Vec<u16> {
+    (0..1u32 << 15).map(|r| (0..5).map(|i| ((gens[i] & r).count_ones() as u16 % 2) << i).sum()).collect()
 }
 
 /// The Rust's rows of a list of terms.

@@ -4,6 +4,7 @@
 use super::exact::{self, Exact};
 use super::inputs::{self, Dice, STYLES, rows, sent_places, styled};
 use super::face::Header;
+use super::labels;
 use super::{KINDS, MODES, REFUSED, Section, told};
 use ion::fec::conv::{ConvCode, Told};
 use ion::phy_mfsk::hook::{Fmt, Kind, air, code, decode_terms, decode_terms_told};
@@ -14,11 +15,11 @@ const KEPT: u8 = 1;
 const OPEN: u8 = 2;
 const LIKELY: u8 = 3;
 
-const PATTERN: u32 = 0x7F80_0001;
-const WORD: u64 = 0xA5A5_A5A5_A5A5_A5A5;
+pub const PATTERN: u32 = 0x7F80_0001;
+pub const WORD: u64 = 0xA5A5_A5A5_A5A5_A5A5;
 
 /// What is lent. The areas and the places start with patterns of bits that are no zero: signalling NaNs in the scores and the ceiling.
-fn lent(lengths: [usize; 4]) -> Header {
+pub fn lent(lengths: [usize; 4]) -> Header {
     let scores = |n| vec![f32::from_bits(PATTERN); n];
     let scores = [scores(lengths[0]), scores(lengths[1]), scores(lengths[2])];
     let (score, ceiling) = (f32::from_bits(PATTERN), f32::from_bits(PATTERN + 1));
@@ -26,12 +27,12 @@ fn lent(lengths: [usize; 4]) -> Header {
 }
 
 /// The five places of the answer, by their bits.
-fn places(h: &Header) -> [u64; 5] {
+pub fn places(h: &Header) -> [u64; 5] {
     [h.word, h.outcome as u64, h.pass as u64, h.score.to_bits() as u64, h.ceiling.to_bits() as u64]
 }
 
 /// How many places of the areas do not hold these bits.
-fn other(h: &Header, score: u32, decision: u64) -> u64 {
+pub fn other(h: &Header, score: u32, decision: u64) -> u64 {
     let scores: usize = h.scores.iter().map(|a| a.iter().filter(|x| x.to_bits() != score).count()).sum();
     (scores + h.decisions.iter().filter(|&&d| d != decision).count()) as u64
 }
@@ -138,8 +139,8 @@ fn promised(s: &mut Section, m: usize, k: usize, terms: &[f32], words: impl Iter
     }
 }
 
-/// One header: pairs (answered, word, score's bits, outcome and pass, ceiling's bits, areas as zeros; of one out in the first pass its ceiling's and
-/// its score's bits; and what is promised beside other words: that sent, the answered one, those one bit from it, and some others).
+/// One header: pairs (answered, word, score's bits, outcome and pass, ceiling's bits, areas as zeros; the same number, places and areas with a lent table
+/// of labels; of one out in the first pass its ceiling's and its score's bits; and what is promised beside other words: that sent, the answered one, those one bit from it, and some others).
 fn header(s: &mut Section, c: &ConvCode, m: usize, k: usize, terms: &[f32], sent: u64, met: &mut Met, input: &dyn Fn() -> String) {
     let n = air::header_info_bits(KINDS[k]);
     let mut ours = lent(Header::lengths(n));
@@ -156,6 +157,10 @@ fn header(s: &mut Section, c: &ConvCode, m: usize, k: usize, terms: &[f32], sent
     s.pair(how(&ours), 16 * outcome as u64 + pass as u64, input);
     s.pair(ours.ceiling.to_bits() as u64, copy.ceiling().to_bits() as u64, input);
     s.pair(other(&ours, 0, 0), 0, input);
+    let mut with = lent(Header::lengths(n));
+    s.pair(told(with.read_with(m as u8, k as u8, terms, labels::table())), 0, || format!("{}, with a table", input()));
+    places(&with).into_iter().zip(places(&ours)).for_each(|(with, plain)| s.pair(with, plain, || format!("{}, with a table and by parity", input())));
+    s.pair(other(&with, 0, 0), 0, || format!("{}, areas with a table", input()));
     if (copy.kind, copy.pass) == (0, 1) {
         s.pair(ours.ceiling.to_bits() as u64, score.to_bits() as u64, input);
     }

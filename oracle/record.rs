@@ -225,6 +225,45 @@ fn slips(put: Put) {
     (0..44).for_each(|at| read(put, at, 1 << (at % 8), 44));
 }
 
+/// Document 02, #111: headers read with a lent table of labels, right and off: every cause, and of several the first.
+fn tables(put: Put) {
+    let c = code();
+    let mut one = |seed: u64, other: u64, m: usize, k: usize, place: u64, by: u64| {
+        let (mode, kind) = ([MfskMode::R0, MfskMode::R1][m], [Kind::HeaderOnly, Kind::Data, Kind::Cue][k]);
+        let t = terms(mode, kind, seed);
+        let (bits, score, copy) = decode_terms_told(&c, mode, kind, &t);
+        let (outcome, pass) = copy.outcome(score);
+        let word = bits.iter().rev().fold(0, |w, &b| w << 1 | b as u64);
+        let places = [word, outcome as u64 + 16 * pass as u64, score.to_bits() as u64, copy.ceiling().to_bits() as u64];
+        let answer = match other {
+            6 => REFUSED + 1,
+            4 | 5 => REFUSED + 4,
+            1 | 2 | 7 => REFUSED + 16,
+            3 => REFUSED + 6,
+            _ => places.into_iter().fold(seed, |h, x| air::mix64(h ^ x)),
+        };
+        put(153, seed | other << 20 | (m as u64) << 23 | (k as u64) << 24 | place << 32 | by << 47, answer);
+    };
+    for m in 0..2 {
+        for k in 0..3 {
+            one(500 + 10 * m as u64 + k as u64, 0, m, k, 0, 0);
+        }
+    }
+    // the first entry, the last, both sides of the halves, each of the five bits and bits above them
+    for (i, place) in [0, 1, 2, 16_383, 16_384, 16_385, 32_766, 32_767, 255, 8_192].into_iter().enumerate() {
+        one(600 + i as u64, 1, i % 2, i % 3, place, 1 << [0, 1, 2, 3, 4, 5, 8, 15, 0, 4][i]);
+    }
+    // as linear as the right one, by another generator: a bit of one of the five
+    for (i, bit) in [0, 3, 7, 14].into_iter().enumerate() {
+        one(620 + i as u64, 7, i % 2, i % 3, 1 << bit, 1 << i);
+    }
+    for other in 2..=6 {
+        for i in 0..4 {
+            one(640 + 10 * other + i, other, i as usize % 2, i as usize % 3, 1 + 4_321 * i, 1 + i);
+        }
+    }
+}
+
 /// Takes what was asked, its argument and the answer.
 type Put<'a> = &'a mut dyn FnMut(u8, u64, u64);
 
@@ -324,6 +363,7 @@ fn vectors(put: Put) {
     }
     ceilings(put);
     likely_slips(put);
+    tables(put);
 }
 
 /// Document 02, #106 and #107: ceilings of headers as those of the codes 64 to 81, by the copy of `decode_tb`'s loop to which make.sh adds the tops,

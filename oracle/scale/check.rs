@@ -35,7 +35,7 @@ impl Bits for f64 {
 
 pub const KINDS: usize = 8;
 /// Every refusal's number is below this.
-pub const NUMBERS: usize = 16;
+pub const NUMBERS: usize = 17;
 
 #[derive(Default)]
 pub struct Check {

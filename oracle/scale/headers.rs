@@ -2,12 +2,13 @@
 // costs least; the rest are chosen so that every outcome is met often. Ceiling and outcome, which the Rust has not, are held to the copy of `decode_tb`'s
 // loop to which make.sh adds the passes' tops, and in rivals.rs to a second search.
 use crate::check::Check;
-use crate::face::Header;
+use crate::face::{self, Header};
 use crate::inputs::{Dice, dirty, rows, sent_places, styled};
 use crate::jobs::{Job, Oracle};
 use crate::made::{How, KINDS, MODES, made};
 use crate::rivals;
 use crate::small::{bad_name, header_bits, layout};
+use ion::fec::conv::Told;
 use ion::phy_mfsk::hook::{Fmt, decode_terms_told, windows};
 
 /// By outcome and pass; that a Sure of pass 3 was a candidate is told apart.
@@ -67,24 +68,52 @@ fn lent(d: &mut Dice, lengths: [usize; 4]) -> Header {
     Header { scores, decisions, word: d.word(), outcome: 0xA5, pass: 0x5A, score: f32::from_bits(0x7f80_0001), ceiling: f32::from_bits(0xffc1_2345) }
 }
 
-/// Of several causes the first in the papers' order.
-fn table(mode: u8, kind: u8, terms: &[f32], lengths: [usize; 4]) -> u32 {
+/// Of several causes the first in the papers' order; with a lent table of labels the Rust's are asked for.
+fn table(o: &Oracle, mode: u8, kind: u8, terms: &[f32], labels: Option<&[u16]>, lengths: [usize; 4]) -> u32 {
     let n = header_bits(kind);
     match () {
         _ if mode > 1 || kind > 2 => 1,
-        _ if terms.len() != 260 * n || lengths != Header::lengths(n) => 4,
+        _ if terms.len() != 260 * n || lengths != Header::lengths(n) || labels.is_some_and(|l| l.len() != 32_768) => 4,
+        _ if labels.is_some_and(|l| l != o.labels) => 16,
         _ if terms.iter().any(|t| !(t.abs() <= 1_000_000.0)) => 6,
         _ => 0,
     }
 }
 
-/// One header on both sides, with areas of these lengths: the number, the answer, every lent byte. Returns what was answered.
-pub fn read(o: &Oracle, c: &mut Check, d: &mut Dice, mode: u8, kind: u8, mut terms: Vec<f32>, lengths: [usize; 4]) -> Option<Answered> {
-    let (before, want) = (terms.clone(), table(mode, kind, &terms, lengths));
+/// What the Rust and the copy of its loop say of accepted terms, and which kind of answer that is.
+struct Theirs {
+    word: u64,
+    score: f32,
+    outcome: u8,
+    pass: u8,
+    copy: Told,
+}
+
+impl Theirs {
+    fn of(o: &Oracle, mode: u8, kind: u8, terms: &[f32]) -> Theirs {
+        let (bits, score, copy) = decode_terms_told(&o.code, MODES[mode as usize], KINDS[kind as usize], &rows(terms));
+        let (outcome, pass) = copy.outcome(score);
+        Theirs { word: bits.iter().rev().fold(0, |w, &b| w << 1 | b as u64), score, outcome, pass, copy }
+    }
+    fn is_first(&self) -> bool {
+        (self.copy.kind, self.copy.pass) == (0, 1)
+    }
+    fn kind(&self) -> usize {
+        match (self.outcome, self.copy.kind) {
+            (0, 1) => 3,
+            (0, _) => self.pass as usize - 1,
+            (3, _) => 2 + self.pass as usize,
+            (1, _) => 6,
+            _ => 7,
+        }
+    }
+}
+
+/// One way of reading: the number, the answer, every lent byte. What is lent holds any bits before. Returns the ceiling that was told.
+fn one_way(c: &mut Check, d: &mut Dice, lengths: [usize; 4], want: u32, theirs: Option<&Theirs>, call: impl FnOnce(&mut Header) -> u32) -> f32 {
     let mut ours = lent(d, lengths);
-    let mut answered = None;
     let left = (want != 0).then(|| (ours.scores.clone(), ours.decisions.clone(), ours.word));
-    c.one("number", &mut ours.read(mode, kind, &terms), want);
+    c.one("number", &mut call(&mut ours), want);
     if let Some((scores, decisions, word)) = left {
         (0..3).for_each(|i| c.list(["scores", "next", "start"][i], &mut ours.scores[i], &scores[i]));
         c.list("decisions", &mut ours.decisions, &decisions);
@@ -93,35 +122,39 @@ pub fn read(o: &Oracle, c: &mut Check, d: &mut Dice, mode: u8, kind: u8, mut ter
         c.one("pass's place", &mut ours.pass, 0x5A);
         c.one("score's place", &mut ours.score, f32::from_bits(0x7f80_0001));
         c.one("ceiling's place", &mut ours.ceiling, f32::from_bits(0xffc1_2345));
-        c.refused(want);
-    } else {
-        let (bits, score, copy) = decode_terms_told(&o.code, MODES[mode as usize], KINDS[kind as usize], &rows(&before));
-        let ((outcome, pass), ceiling) = (copy.outcome(score), copy.ceiling());
-        let word = bits.iter().rev().fold(0u64, |w, &b| w << 1 | b as u64);
-        let is_first = (copy.kind, copy.pass) == (0, 1);
-        c.one("word", &mut ours.word, word);
-        c.one("outcome", &mut ours.outcome, outcome);
-        c.one("pass", &mut ours.pass, pass);
-        c.one("score", &mut ours.score, score);
-        c.one("ceiling", &mut ours.ceiling, ceiling);
-        if is_first {
-            c.one("ceiling of the first pass, as its score", &mut ours.ceiling, score);
+    }
+    if let Some(t) = theirs {
+        c.one("word", &mut ours.word, t.word);
+        c.one("outcome", &mut ours.outcome, t.outcome);
+        c.one("pass", &mut ours.pass, t.pass);
+        c.one("score", &mut ours.score, t.score);
+        c.one("ceiling", &mut ours.ceiling, t.copy.ceiling());
+        if t.is_first() {
+            c.one("ceiling of the first pass, as its score", &mut ours.ceiling, t.score);
         }
-        c.tops.join(&Tops::of(&copy.tops, ceiling, score));
-        answered = Some(Answered { word, score, ceiling: ours.ceiling, passes: copy.tops.len(), is_sure: outcome == 0, is_closed: outcome != 2, is_first });
         (0..3).for_each(|i| c.all(["scores", "next", "start"][i], &mut ours.scores[i], 0.0));
         c.all("decisions", &mut ours.decisions, 0);
-        c.answered(match (outcome, copy.kind) {
-            (0, 1) => 3,
-            (0, _) => pass as usize - 1,
-            (3, _) => 2 + pass as usize,
-            (1, _) => 6,
-            _ => 7,
-        });
     }
+    ours.ceiling
+}
+
+/// One header on both sides, with areas of these lengths, by parity and with the Rust's labels lent. Returns what was answered.
+pub fn read(o: &Oracle, c: &mut Check, d: &mut Dice, mode: u8, kind: u8, mut terms: Vec<f32>, lengths: [usize; 4]) -> Option<Answered> {
+    let (before, want) = (terms.clone(), table(o, mode, kind, &terms, None, lengths));
+    let theirs = (want == 0).then(|| Theirs::of(o, mode, kind, &before));
+    let ceiling = one_way(c, d, lengths, want, theirs.as_ref(), |h| h.read(mode, kind, &terms));
+    let mut labels = o.labels.clone();
+    one_way(c, d, lengths, want, theirs.as_ref(), |h| h.read_with(mode, kind, &terms, &labels));
     c.list("the terms", &mut terms, &before);
+    c.list("the labels", &mut labels, &o.labels);
     c.input(|| format!("mode {mode} kind {kind}, {} terms, areas of {lengths:?}, first terms {:?}", before.len(), &before[..before.len().min(6)]));
-    answered
+    let Some(t) = theirs else {
+        c.refused(want);
+        return None;
+    };
+    c.answered(t.kind());
+    c.tops.join(&Tops::of(&t.copy.tops, t.copy.ceiling(), t.score));
+    Some(Answered { word: t.word, score: t.score, ceiling, passes: t.copy.tops.len(), is_sure: t.outcome == 0, is_closed: t.outcome != 2, is_first: t.is_first() })
 }
 
 /// Mode and kind: seven of eight headers have 48 symbols, which cost less.
@@ -227,15 +260,23 @@ fn random(o: &Oracle, d: &mut Dice, i: u64, c: &mut Check) {
     read_and_rank(o, c, d, mode, kind, t, None)
 }
 
-/// A good header with one to three damages: names, five lengths, terms out of range. Some are harmless, and are then read.
-fn damaged(o: &Oracle, d: &mut Dice, _: u64, c: &mut Check) {
+/// A header that may be damaged: names, five lengths, terms.
+struct Lent {
+    mode: u8,
+    kind: u8,
+    terms: Vec<f32>,
+    lengths: [usize; 4],
+}
+
+/// A good header, and one to three damages of it, as `which` says of each. Some are harmless.
+fn damages(d: &mut Dice, which: impl Fn(&mut Dice) -> u64) -> Lent {
     let (mut mode, mut kind) = (d.below(2) as u8, d.below(3) as u8);
     let n = header_bits(kind);
     let mut lengths = Header::lengths(n);
     let mut t: Vec<f32> = (0..260 * n).map(|_| noise(d)).collect();
     sent_places(MODES[mode as usize], KINDS[kind as usize], d.word()).into_iter().for_each(|at| t[at] += 9.0);
     for _ in 0..1 + d.below(3) {
-        match d.below(24) {
+        match which(d) {
             0 => mode = bad_name(d, 2),
             1 => kind = bad_name(d, 3),
             2 => kind = [1, 0, 1][kind as usize % 3],
@@ -256,7 +297,56 @@ fn damaged(o: &Oracle, d: &mut Dice, _: u64, c: &mut Check) {
             }
         }
     }
-    read(o, c, d, mode, kind, t, lengths);
+    Lent { mode, kind, terms: t, lengths }
+}
+
+/// Damaged, and lent to both ways of reading with the Rust's labels.
+fn damaged(o: &Oracle, d: &mut Dice, _: u64, c: &mut Check) {
+    let l = damages(d, |d| d.below(24));
+    read(o, c, d, l.mode, l.kind, l.terms, l.lengths);
+}
+
+/// Lent a table of labels that may be off or of another length, with terms that may be out of range; a name or an area is damaged seldom.
+fn damaged_table(o: &Oracle, d: &mut Dice, _: u64, c: &mut Check) {
+    let l = damages(d, |d| if d.below(8) == 0 { d.below(15) } else { 15 + d.below(16) });
+    let mut labels = o.labels.clone();
+    for _ in 0..d.below(3) {
+        let at = d.below(labels.len().max(1) as u64) as usize;
+        match d.below(8) {
+            // one entry by one bit, by any, to another entry's
+            0 | 1 => labels.get_mut(at).into_iter().for_each(|x| *x ^= 1 << d.below(16)),
+            2 => labels.get_mut(at).into_iter().for_each(|x| *x = d.word() as u16),
+            3 => labels.get_mut(at).into_iter().for_each(|x| *x = o.labels[at ^ 1 << d.below(15)]),
+            // a bit of some block, so that it goes on as it began
+            4 => {
+                let (from, to) = (d.below(15), d.below(5));
+                labels.iter_mut().enumerate().filter(|(r, _)| r >> from & 1 == 1).for_each(|(_, x)| *x ^= 1 << to);
+            }
+            5 => labels.resize(d.of(&[0, 1, 16_384, 32_767, 32_769, 65_536]), 0),
+            _ => (),
+        }
+    }
+    let want = table(o, l.mode, l.kind, &l.terms, Some(&labels), l.lengths);
+    let theirs = (want == 0).then(|| Theirs::of(o, l.mode, l.kind, &l.terms));
+    let before = labels.clone();
+    one_way(c, d, l.lengths, want, theirs.as_ref(), |h| h.read_with(l.mode, l.kind, &l.terms, &labels));
+    c.list("the labels", &mut labels, &before);
+    c.input(|| format!("mode {} kind {}, {} terms, {} labels, areas of {:?}", l.mode, l.kind, l.terms.len(), before.len(), l.lengths));
+    match theirs {
+        Some(t) => c.answered(t.kind()),
+        None => c.refused(want),
+    }
+}
+
+/// A table of any length filled, over any entries.
+fn filled(o: &Oracle, d: &mut Dice, i: u64, c: &mut Check) {
+    let length = if i % 2 == 0 { 32_768 } else { d.of(&[0, 1, 2, 16_384, 32_767, 32_769, 65_536]) };
+    let mut ours: Vec<u16> = (0..length).map(|_| d.word() as u16).collect();
+    let before = ours.clone();
+    let right = length == 32_768;
+    c.one("number", &mut face::fill_labels(&mut ours), if right { 0 } else { 4 });
+    c.list("the table", &mut ours, if right { &o.labels } else { &before });
+    if right { c.answered(0) } else { c.refused(4) }
 }
 
 /// Not finite, or just beyond ±1,000,000: NaNs quiet and signalling and of both signs.
@@ -267,6 +357,8 @@ pub const BAD_TERMS: [f32; 9] = [
 pub fn jobs() -> Vec<Job> {
     let job = |source, inputs, kinds, numbers, cost, one| Job { entry: "header read", source, inputs, kinds, numbers, cost, one };
     vec![
+        Job { entry: "labels filled", source: "random", inputs: 4_000, kinds: &["filled"], numbers: &[4], cost: 0.2, one: filled },
+        Job { entry: "header read with", source: "damaged", inputs: 20_000, kinds: &OUTCOMES[..1], numbers: &[1, 4, 16, 6], cost: 0.7, one: damaged_table },
         job("damaged", 40_000, &OUTCOMES[..1], &[1, 4, 6], 0.7, damaged),
         job("random", 3_500, OUTCOMES, &[], 42.0, random),
         job("by channel", 5_000, OUTCOMES, &[], 25.0, by_channel),

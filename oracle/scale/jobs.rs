@@ -14,6 +14,8 @@ use std::time::{Duration, Instant};
 /// What the Rust needs to have made once.
 pub struct Oracle {
     pub code: ConvCode,
+    /// Its labels, which are lent to ours.
+    pub labels: Vec<u16>,
 }
 
 pub struct Job {

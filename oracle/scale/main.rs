@@ -1,4 +1,4 @@
-// Runs all thirteen entries side by side at scale: ours through the C functions of libion.a, the Rust's through the hook, and for slips and
+// Runs all fifteen entries side by side at scale: ours through the C functions of libion.a, the Rust's through the hook, and for slips and
 // the board, which the Rust has not, the second writer and reader of slip.rs and the second board of board.rs.
 // Built and run by scale.sh, whose head says what can be asked.
 #[path = "../board.rs"]
@@ -112,7 +112,8 @@ fn main() {
     let a = asked();
     // a panic is caught and told as a difference
     std::panic::set_hook(Box::new(|_| ()));
-    let o = Oracle { code: ion::phy_mfsk::hook::code() };
+    let code = ion::phy_mfsk::hook::code();
+    let o = Oracle { labels: inputs::labels(&code), code };
     if let Some(folder) = &a.replay {
         exit(replay::all(&o, folder, a.plant.map(|p| (p.1, p.2))));
     }

@@ -30,6 +30,12 @@ mod sys {
             start: *mut f32, start_len: usize, decisions: *mut u64, decisions_len: usize, word: *mut u64, outcome: *mut u8, pass: *mut u8,
             score: *mut f32, ceiling: *mut f32,
         ) -> u32;
+        pub fn ion_fill_labels(labels: *mut u16, labels_len: usize) -> u32;
+        pub fn ion_read_header_with(
+            mode: u8, kind: u8, terms: *const f32, terms_len: usize, labels: *const u16, labels_len: usize, scores: *mut f32, scores_len: usize,
+            next: *mut f32, next_len: usize, start: *mut f32, start_len: usize, decisions: *mut u64, decisions_len: usize, word: *mut u64,
+            outcome: *mut u8, pass: *mut u8, score: *mut f32, ceiling: *mut f32,
+        ) -> u32;
         pub fn ion_soft_values(
             mode: u8, kind: u8, layout: u8, symbols: u8, window: u32, bits: u32, terms: *const f32, terms_len: usize, blanked: *const u32,
             blanked_len: usize, work: *mut f32, work_len: usize, metrics: *mut f32, metrics_len: usize, soft: *mut f32, soft_len: usize,
@@ -54,16 +60,16 @@ mod sys {
             mode: u8, kind: u8, rows: u32, energies: *const f32, energies_len: usize, noise: *const f32, noise_len: usize, eps: f32, r: f32,
             factors: *mut f32, factors_len: usize,
         ) -> u32;
-        pub fn ion_version_110() -> u32;
+        pub fn ion_version_111() -> u32;
     }
 }
 
 /// The number of the last change request that is in; 0 is the base. The library has it in a symbol's name, so a library of another
 /// version does not link.
-pub const VERSION: u32 = 110;
+pub const VERSION: u32 = 111;
 
 #[used]
-static VERSION_LINKED: unsafe extern "C" fn() -> u32 = sys::ion_version_110;
+static VERSION_LINKED: unsafe extern "C" fn() -> u32 = sys::ion_version_111;
 
 /// Terms of a symbol: five rows of 52.
 pub const TERMS: usize = 260;
@@ -73,6 +79,8 @@ pub const VALUES: usize = 32;
 pub const STATES: usize = 16_384;
 /// Words of decisions for each header symbol.
 pub const DECISIONS: usize = STATES / 64;
+/// Entries of a table of labels: one for each register of the header's code.
+pub const REGISTERS: usize = 2 * STATES;
 /// Bytes of a slip.
 pub const SLIP: usize = 44;
 /// Bytes of a segment board: a place of [`SLIP`] bytes for each of its [`SEGMENTS`].
@@ -175,8 +183,8 @@ pub enum Form {
     Symbols = 1,
 }
 
-/// Why nothing was done: the papers' causes. Of several causes, the one whose number comes first in the order 1, 12, 2, 3, 4, 5, 11, 6,
-/// 15, 7, 8, 9, 10, 13, 14.
+/// Why nothing was done: the papers' causes. Of several causes, the one whose number comes first in the order 1, 12, 2, 3, 4, 16, 5, 11,
+/// 6, 15, 7, 8, 9, 10, 13, 14.
 #[derive(Clone, Copy, Debug, PartialEq, Eq, Hash)]
 #[non_exhaustive]
 pub enum Refusal {
@@ -210,15 +218,18 @@ pub enum Refusal {
     Full,
     /// Over [`ROWS`] rows, or eps, r, a noise or an energy out of range.
     Noise,
+    /// A table of labels ([`Labels`]) with an entry off the parity rule.
+    Labels,
     /// A number that these bindings have no name for. No function of this version answers one.
     Unnamed(u32),
 }
 
 impl Refusal {
     /// By their numbers, from 1 on.
-    const NAMED: [Refusal; 15] = [
+    const NAMED: [Refusal; 16] = [
         Refusal::Name, Refusal::Count, Refusal::Window, Refusal::Length, Refusal::Bit, Refusal::Term, Refusal::Blanked, Refusal::Sample,
         Refusal::Tracker, Refusal::Blocks, Refusal::Value, Refusal::Layout, Refusal::Slip, Refusal::Full, Refusal::Noise,
+        Refusal::Labels,
     ];
 
     /// The number in the papers.
@@ -230,6 +241,7 @@ impl Refusal {
     /// assert_eq!(ion_proved::Refusal::Slip.number(), 13);
     /// assert_eq!(ion_proved::Refusal::Full.number(), 14);
     /// assert_eq!(ion_proved::Refusal::Noise.number(), 15);
+    /// assert_eq!(ion_proved::Refusal::Labels.number(), 16);
     /// ```
     pub fn number(self) -> u32 {
         match self {
@@ -264,6 +276,7 @@ impl fmt::Display for Refusal {
             Refusal::Slip => "bytes that are no slip, values that no slip holds, or a board that is broken",
             Refusal::Full => "a slip for an unlisted segment where 512 are listed",
             Refusal::Noise => "over 2,048 rows, or eps, r, a noise or an energy out of range",
+            Refusal::Labels => "a table of labels with an entry off the parity rule",
             Refusal::Unnamed(_) => "a number without a name here",
         };
         write!(f, "refused by number {}: {why}", self.number())
@@ -344,7 +357,7 @@ pub struct Header {
     pub ceiling: f32,
 }
 
-/// The work areas of [`read_header`], made once and lent to every read, of either length.
+/// The work areas of [`read_header`] and [`read_header_with`], made once and lent to every read, of either length.
 #[derive(Clone, Debug)]
 pub struct Areas {
     scores: Vec<f32>,
@@ -480,15 +493,101 @@ pub fn read_header(mode: Mode, kind: Kind, terms: &[f32], areas: &mut Areas) -> 
     Ok(Header { word, outcome: Outcome::named(outcome, pass, score), ceiling })
 }
 
+/// Fills a table of [`REGISTERS`] labels, whatever was in it: entry r is the label of register r, of which bit i, from the lowest, is the
+/// parity of the ones in generator i AND r. [`Labels`] has a table of its own; this is for one that lies elsewhere.
+///
+/// ```
+/// use ion_proved::{fill_labels, Refusal, REGISTERS};
+/// let mut table = [9; REGISTERS];
+/// assert_eq!(fill_labels(&mut table), Ok(()));
+/// assert_eq!(table[..4], [0, 31, 26, 5]);
+/// assert_eq!(fill_labels(&mut table[1..]), Err(Refusal::Length));
+/// ```
+pub fn fill_labels(table: &mut [u16]) -> Result<(), Refusal> {
+    // SAFETY: the slice is told with its own length.
+    Refusal::told(unsafe { sys::ion_fill_labels(table.as_mut_ptr(), table.len()) })
+}
+
+/// The labels of all registers, filled in advance for [`read_header_with`]. One table serves every mode, kind and layout, and any number of
+/// threads at once.
+///
+/// A table may be made elsewhere (`Labels::from`): it is not looked at then, since every read tests all of it.
+#[derive(Clone, Debug, PartialEq, Eq)]
+pub struct Labels(Vec<u16>);
+
+impl Labels {
+    pub fn new() -> Labels {
+        let mut table = vec![0; REGISTERS];
+        fill_labels(&mut table).expect("a table of its length is filled");
+        Labels(table)
+    }
+
+    /// The entries, register 0 first.
+    pub fn as_slice(&self) -> &[u16] {
+        &self.0
+    }
+}
+
+impl Default for Labels {
+    fn default() -> Labels {
+        Labels::new()
+    }
+}
+
+impl From<Vec<u16>> for Labels {
+    fn from(table: Vec<u16>) -> Labels {
+        Labels(table)
+    }
+}
+
+/// Reads a header as [`read_header`] does, with labels filled in advance, in less time.
+///
+/// Proved: with a table that is not refused it answers what [`read_header`] answers for the same mode, kind and terms, `Err` included; all that
+/// is proved of a [`Header`] holds of this one, under the same conditions. A table with one entry off the parity rule is refused in every call.
+///
+/// ```
+/// use ion_proved::{read_header, read_header_with, Areas, Kind, Labels, Mode, Refusal, TERMS};
+/// let (mut areas, labels) = (Areas::new(), Labels::new());
+/// let mut terms = vec![0.0; 48 * TERMS];
+/// terms[700] = 3.0;
+/// let header = read_header(Mode::R0, Kind::Cue, &terms, &mut areas);
+/// assert_eq!(read_header_with(Mode::R0, Kind::Cue, &terms, &labels, &mut areas), header);
+///
+/// // one entry off, or a table too short
+/// let mut table = labels.as_slice().to_vec();
+/// table[20_000] ^= 1;
+/// assert_eq!(read_header_with(Mode::R0, Kind::Cue, &terms, &table.into(), &mut areas), Err(Refusal::Labels));
+/// let short = Labels::from(labels.as_slice()[..48].to_vec());
+/// assert_eq!(read_header_with(Mode::R0, Kind::Cue, &terms, &short, &mut areas), Err(Refusal::Length));
+/// // the table is tested before the terms
+/// terms[5] = f32::NAN;
+/// assert_eq!(read_header_with(Mode::R0, Kind::Cue, &terms, &vec![0; 32_768].into(), &mut areas), Err(Refusal::Labels));
+/// assert_eq!(read_header_with(Mode::R0, Kind::Cue, &terms, &labels, &mut areas), Err(Refusal::Term));
+/// ```
+pub fn read_header_with(mode: Mode, kind: Kind, terms: &[f32], labels: &Labels, areas: &mut Areas) -> Result<Header, Refusal> {
+    let (Areas { scores, next, start, decisions }, labels) = (areas, labels.as_slice());
+    let decisions = &mut decisions[..kind.header() * DECISIONS];
+    let (mut word, mut outcome, mut pass, mut score, mut ceiling) = (0, 0, 0, 0.0, 0.0);
+    // SAFETY: every slice is told with its own length; they and the five places cannot overlap.
+    Refusal::told(unsafe {
+        sys::ion_read_header_with(
+            mode as u8, kind as u8, terms.as_ptr(), terms.len(), labels.as_ptr(), labels.len(), scores.as_mut_ptr(), scores.len(),
+            next.as_mut_ptr(), next.len(), start.as_mut_ptr(), start.len(), decisions.as_mut_ptr(), decisions.len(), &mut word, &mut outcome,
+            &mut pass, &mut score, &mut ceiling,
+        )
+    })?;
+    Ok(Header { word, outcome: Outcome::named(outcome, pass, score), ceiling })
+}
+
 /// What the shed computer is told of a burst: its header's word and outcome as read, with mode and kind, the sample at which the burst starts,
 /// and its segment's number. It is written as [`SLIP`] bytes: six fields, each a tag of one byte, a length of two and the value, every number
 /// with its highest byte first. It has neither the layout nor the ceiling, nor a verdict on the word's CRC, which [`crc`] tells in the layout
 /// in use.
 ///
 /// Proved: [`Slip::from_bytes`] reads a string of bytes exactly where some slip is written as it, and as that slip, so no two strings are
-/// one slip; and every answer of [`read_header`] can be written, with any start and segment. A score of -0.0 has bytes of its own, though
-/// it equals 0.0 as a number. A slip from before version 107 is written and read as it was; but there Sure says only that the word was out
-/// by closing: with pass 2 or 3 another one may beat it.
+/// one slip; and every answer of [`read_header`] and [`read_header_with`] can be written, with any start and segment. A score of -0.0 has
+/// bytes of its own, though it equals 0.0 as a number. A slip from before version 107 is written and read as it was; but there Sure says
+/// only that the word was out by closing: with pass 2 or 3 another one may beat it.
 ///
 /// ```
 /// use ion_proved::{Kind, Mode, Outcome, Refusal, SLIP, Slip};

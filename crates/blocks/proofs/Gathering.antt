@@ -14,12 +14,13 @@ use lib.ListN.{length, getD, set, length-set, length-replicate}
 use lib.Seq.{getD-set-same, getD-set-other}
 use Rattle.ieee.specs.Whole.{plusZero}
 use Rattle.util.specs.Choose.{choose}
-use Rattle.blocks.specs.Doubles.{asF64, within, every}
+use Rattle.util.specs.Every.{every}
+use Rattle.blocks.specs.Doubles.{asF64, within}
 use Rattle.blocks.specs.Blocks.{nowhere, half, place2At, timingAt, before, goodAt}
 use Rattle.blocks.specs.Inside.{nothing, pushOf, Gathers}
 use Rattle.blocks.specs.declared.Block.{Block}
 use Rattle.blocks.specs.declared.Gathered.{Gathered}
-use Rattle.blocks.proofs.Further.{every-next}
+use Rattle.util.proofs.Every.{every-next}
 
 -- the greater of two is at most m where both are
 top-both : (a b m : ℕ) → leb (choose (ltb a b) b a) m ≡ leb a m && leb b m

@@ -1,6 +1,6 @@
 -- f64 arithmetic as the definitions write it. Every operation is rounded once, left to right.
-use Prim.Native.Nat.{ℕ, zero, suc}
-use mathlib.Core.Bool.{Bool, true, false, _&&_}
+use Prim.Native.Nat.{ℕ}
+use mathlib.Core.Bool.{Bool, false, _&&_}
 use lib.IntN.{pos}
 use lib.Ieee.{Float, binary64, round, ofInt, add, sub, mul, div, neg, le}
 
@@ -28,8 +28,3 @@ fraction a b = round binary64 false a b
 -- x lies within ±most; a NaN does not
 abbrev pub within : Float → Float → Bool
 within most x = le (neg most) x && le x most
-
--- the test holds at 0, 1 and so on to n - 1
-unfoldable pub every : ℕ → (ℕ → Bool) → Bool
-every zero f = true
-every (suc n) f = every n f && f n

@@ -8,7 +8,8 @@ use lib.ListN.{length, getD, set, replicate}
 use lib.Ieee.{nan}
 use Rattle.ieee.specs.Whole.{plusZero}
 use Rattle.util.specs.Choose.{choose}
-use Rattle.blocks.specs.Doubles.{asF64, within, every}
+use Rattle.util.specs.Every.{every}
+use Rattle.blocks.specs.Doubles.{asF64, within}
 use Rattle.blocks.specs.Blocks.{half, place2At, timingAt, before, goodAt}
 use Rattle.blocks.specs.declared.Block.{Block}
 use Rattle.blocks.specs.declared.Gathered.{Gathered}

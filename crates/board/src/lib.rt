@@ -8,7 +8,7 @@ ghost use mathlib.Core.Path.{_≡_};
 ghost use lib.Dec.{leb};
 ghost use lib.ListN.{length, take};
 ghost use Rattle.util.specs.Choose.{choose};
-ghost use Rattle.header.specs.Read.{outcomeIs};
+ghost use Rattle.outcome.specs.Outcome.{outcomeIs};
 ghost use Rattle.slip.specs.Slips.{isSlip, taken};
 ghost use Rattle.board.specs.Places.{places, placeAt, segmentOf, rising, goodBoard, isListed, before};
 ghost use Rattle.board.specs.Rules as Rules;
@@ -24,14 +24,14 @@ pub enum Put {
 // ---- the yard's rules
 
 // The best reading first. This is no outcome byte.
-fn rank(outcome: header::Outcome) -> u8
+fn rank(outcome: outcome::Outcome) -> u8
     ensures { λ r. ⌜ r ≡ Rules.rank (outcomeIs outcome) ⌝ }
 {
     match outcome {
-        header::Outcome::Sure(_, _) => 0,
-        header::Outcome::Likely(_, _) => 1,
-        header::Outcome::Kept(_) => 2,
-        header::Outcome::Open(_) => 3,
+        outcome::Outcome::Sure(_, _) => 0,
+        outcome::Outcome::Likely(_, _) => 1,
+        outcome::Outcome::Kept(_) => 2,
+        outcome::Outcome::Open(_) => 3,
     }
 }
 

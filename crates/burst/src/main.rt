@@ -73,12 +73,12 @@ fn soft_values(
     )
 }
 
-fn show_outcome(block: &mut [u8], out: Waiting, outcome: header::Outcome) -> Waiting {
+fn show_outcome(block: &mut [u8], out: Waiting, outcome: outcome::Outcome) -> Waiting {
     match outcome {
-        header::Outcome::Sure(score, pass) => burst_lines::sure(block, out, score, pass),
-        header::Outcome::Likely(score, pass) => burst_lines::likely(block, out, score, pass),
-        header::Outcome::Kept(score) => burst_lines::kept(block, out, score),
-        header::Outcome::Open(score) => burst_lines::undecided(block, out, score),
+        outcome::Outcome::Sure(score, pass) => burst_lines::sure(block, out, score, pass),
+        outcome::Outcome::Likely(score, pass) => burst_lines::likely(block, out, score, pass),
+        outcome::Outcome::Kept(score) => burst_lines::kept(block, out, score),
+        outcome::Outcome::Open(score) => burst_lines::undecided(block, out, score),
     }
 }
 

@@ -11,7 +11,7 @@ use lib.ListN.{length, set, length-set}
 use lib.Seq.{set-out, getD-set-other}
 use Rattle.util.specs.Choose.{choose}
 use Rattle.util.specs.Refusal.{Outcome, refused, accepted, afterwards}
-use Rattle.blocks.proofs.Further.{every-at}
+use Rattle.util.proofs.Every.{every-at}
 use Rattle.tracker.proofs.Accepted.{Accepted}
 use Rattle.tracker.proofs.Further.{count-below}
 use Rattle.call.specs.Call.{storedOf, pushedOnto}

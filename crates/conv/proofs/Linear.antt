@@ -131,11 +131,19 @@ pub label-oldest : labelOf 16384 ≡ 31
 unfolding computed onesIn
 label-oldest = label-computed 16384
 
+-- a bit more, above all others, makes a register's label another by that bit's own
+pub label-power : (k r : ℕ) → r < 2 ^ k → labelOf (2 ^ k + r) ≡ bitXor (labelOf r) (labelOf (2 ^ k))
+label-power k r h =
+    let one : 1 * 2 ^ k ≡ 2 ^ k = omega arith in
+    ap (λ (x : ℕ). labelOf (x + r)) (sym one)
+    ∙ ap labelOf (sym (xor-shifted 1 k r h) ∙ ap (λ (x : ℕ). bitXor x r) one ∙ xor-comm (2 ^ k) r)
+    ∙ label-xor r (2 ^ k)
+
 -- every generator has the oldest bit of the register, so the two registers that lead to a state have labels that differ in all five bits
 pub label-upper : (r : ℕ) → r < 16384 → labelOf (r + 16384) ≡ bitXor (labelOf r) 31
 label-upper r h =
     let sum : r + 16384 ≡ 16384 + r = omega arith in
-    ap labelOf (sum ∙ sym (xor-shifted 1 14 r h)) ∙ ap labelOf (xor-comm 16384 r) ∙ label-xor r 16384 ∙ ap (bitXor (labelOf r)) label-oldest
+    ap labelOf sum ∙ label-power 14 r h ∙ ap (bitXor (labelOf r)) label-oldest
 
 -- and the newest, so the two registers of a state have too
 pub label-newer : (r : ℕ) → labelOf (bitXor r 1) ≡ bitXor (labelOf r) 31

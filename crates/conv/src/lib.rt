@@ -20,7 +20,8 @@ fn parity(g: u32, r: u32) -> u32
     u32::count_ones(g & r) % 2
 }
 
-// Inside: the label of a register of 15 bits. Every label in this project comes from here.
+// Inside: the label of a register of 15 bits. Every label in this project comes from here, or from one that does, by linearity
+// (crates labels and pass).
 pub fn label(r: u32) -> u32
     ensures { λ l. ⌜ l ≡ labelOf r ⌝ }
 {

@@ -23,7 +23,8 @@ use Rattle.util.specs.Choose.{choose}
 use Rattle.util.specs.Refusal.{Outcome, refused, accepted, afterwards}
 use Rattle.util.proofs.Choose.{by-case}
 use Rattle.frame.specs.Format.{formatOf}
-use Rattle.blocks.specs.Doubles.{_⊗_, asF64, within, every}
+use Rattle.util.specs.Every.{every}
+use Rattle.blocks.specs.Doubles.{_⊗_, asF64, within}
 use Rattle.blocks.specs.Blocks.{nowhere, place2At, timingAt, before, goodAt}
 use Rattle.fit.specs.Fit.{limitOf, goodBlocks}
 use Rattle.tracker.specs.Rule.{blockLength, waiting, inWholeBlocks, countKept, placesKept, driftKept, sumsKept, shiftKept, rule, inRange, trackAnswer}
@@ -33,7 +34,7 @@ use Rattle.blocks.specs.declared.Block.{Block}
 use Rattle.call.specs.declared.Moved.{Moved}
 use Rattle.tracker.specs.declared.Sample.{Sample}
 use Rattle.tracker.specs.declared.Tracker.{Tracker}
-use Rattle.blocks.proofs.Further.{every-at, every-same, every-all, every-true}
+use Rattle.util.proofs.Every.{every-at, every-same, every-all, every-true}
 use Rattle.tracker.proofs.Further.{waiting-below, length-few, length-positive, count-below, kept-is}
 use Rattle.tracker.proofs.Accepted.{accepted-says, all-passed, refused-eight}
 use Rattle.tracker.proofs.Signs.{within-both}

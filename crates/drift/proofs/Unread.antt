@@ -18,10 +18,11 @@ use Rattle.util.specs.Choose.{choose}
 use Rattle.util.specs.Refusal.{refused, accepted}
 use Rattle.util.proofs.Choose.{choose-same}
 use Rattle.frame.specs.Format.{formatOf}
-use Rattle.blocks.specs.Doubles.{_⊕_, _⊘_, asF64, every}
+use Rattle.util.specs.Every.{every}
+use Rattle.blocks.specs.Doubles.{_⊕_, _⊘_, asF64}
 use Rattle.blocks.specs.Blocks.{nowhere, goodAt}
 use Rattle.blocks.specs.declared.Block.{Block}
-use Rattle.blocks.proofs.Further.{every-same}
+use Rattle.util.proofs.Every.{every-same}
 use Rattle.blocks.proofs.Same.{good-same}
 use Rattle.fit.specs.Fit.{goodBlocks}
 use Rattle.fit.proofs.Same.{blocks-same}

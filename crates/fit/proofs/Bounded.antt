@@ -29,10 +29,11 @@ use Rattle.util.specs.Choose.{choose}
 use Rattle.util.specs.Refusal.{refused, accepted}
 use Rattle.util.proofs.Choose.{by-case, past-cause}
 use Rattle.frame.specs.Format.{r0, r1, formatOf}
-use Rattle.blocks.specs.Doubles.{asF64, fraction, within, every}
+use Rattle.util.specs.Every.{every}
+use Rattle.blocks.specs.Doubles.{asF64, fraction, within}
 use Rattle.blocks.specs.Blocks.{half, place2At, timingAt, before, goodAt}
 use Rattle.blocks.specs.declared.Block.{Block}
-use Rattle.blocks.proofs.Further.{every-at}
+use Rattle.util.proofs.Every.{every-at}
 use Rattle.fit.specs.Fit.{limitOf, priorOf, shrunkSlope, fitAbout, fitOf, goodBlocks, fitBlocks, fitAnswer}
 
 -- ---- the two modes' constants, by computing

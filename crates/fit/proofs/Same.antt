@@ -12,7 +12,8 @@ use Rattle.ieee.proofs.Folds.{run-same}
 use Rattle.util.specs.Choose.{choose}
 use Rattle.util.specs.Refusal.{outcome}
 use Rattle.frame.specs.Format.{formatOf}
-use Rattle.blocks.specs.Doubles.{_⊖_, _⊗_, _⊘_, asF64, every}
+use Rattle.util.specs.Every.{every}
+use Rattle.blocks.specs.Doubles.{_⊖_, _⊗_, _⊘_, asF64}
 use Rattle.blocks.specs.Blocks.{nowhere, half, place2At, timingAt, goodAt}
 use Rattle.blocks.specs.Inside.{Gathers}
 use Rattle.blocks.specs.declared.Block.{Block}

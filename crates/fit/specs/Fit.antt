@@ -10,7 +10,8 @@ use Rattle.ieee.specs.Within.{larger, clamp}
 use Rattle.util.specs.Choose.{choose}
 use Rattle.util.specs.Refusal.{Cause, Outcome, refused, accepted, outcome}
 use Rattle.frame.specs.Format.{formatOf}
-use Rattle.blocks.specs.Doubles.{_⊕_, _⊖_, _⊗_, _⊘_, asF64, fraction, every}
+use Rattle.util.specs.Every.{every}
+use Rattle.blocks.specs.Doubles.{_⊕_, _⊖_, _⊗_, _⊘_, asF64, fraction}
 use Rattle.blocks.specs.Blocks.{half, place2At, timingAt, goodAt}
 use Rattle.blocks.specs.declared.Block.{Block}
 use Rattle.fit.specs.declared.Fit.{Fit}

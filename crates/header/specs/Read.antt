@@ -6,25 +6,19 @@ use mathlib.Core.Path.{_≡_}
 use lib.Dec.{eqb}
 use lib.Ieee.{Float}
 use lib.ListN.{length, replicate}
+use Rattle.util.specs.Choose.{choose}
 use Rattle.util.specs.Refusal as Refusal
 use Rattle.util.specs.Refusal.{Cause, refused, accepted, outcome, afterwards}
 use Rattle.frame.specs.Format.{named, headerBits}
 use Rattle.model.specs.Range.{someOut}
 use Rattle.trellis.specs.Answer as Answer
 use Rattle.trellis.specs.Terms.{documentSearch}
-use Rattle.header.specs.declared.Outcome.{Outcome}
-use Rattle.header.specs.declared.Outcome.the-variants.{Sure, Likely, Kept, Open}
+use Rattle.outcome.specs.Outcome.{outcomeIs}
 use Rattle.header.specs.declared.HeaderAnswer.{HeaderAnswer}
 use Rattle.header.specs.declared.HeaderRead.{HeaderRead}
 use Rattle.header.specs.declared.HeaderRead.the-variants.{Answer, Refused}
 
--- the outcome's cases and the answer in the papers' words
-abbrev pub outcomeIs : Outcome → Answer.Outcome Float
-outcomeIs (Sure x pass) = Answer.Sure x pass
-outcomeIs (Likely x pass) = Answer.Likely x pass
-outcomeIs (Kept x) = Answer.Kept x
-outcomeIs (Open x) = Answer.Open x
-
+-- the answer's cases in the papers' words
 abbrev pub answerIs : HeaderAnswer → Answer.Answer Float
 answerIs a = record { word = a .word; outcome = outcomeIs (a .outcome); ceiling = a .ceiling }
 
@@ -64,6 +58,10 @@ causes mode kind terms w =
 -- the public entry: its answer
 abbrev pub headerRead : ℕ → ℕ → List Float → Areas → Refusal.Outcome (Answer.Answer Float)
 headerRead mode kind terms w = outcome (causes mode kind terms w) (documentSearch mode kind terms)
+
+-- past the mode, the kind and the lengths: a term out of range, else the search's answer
+abbrev pub termsRead : ℕ → ℕ → List Float → Refusal.Outcome (Answer.Answer Float)
+termsRead mode kind terms = choose (someOut terms) (refused 6) (accepted (documentSearch mode kind terms))
 
 -- an area at exit: as it was on a refusal, else zeros
 abbrev pub areaAfter : {A : Type 0} → Refusal.Outcome (Answer.Answer Float) → A → List A → List A

@@ -1,28 +1,16 @@
 // The header read: the search over its steps' metrics and lent areas, the answer, the refusals. Its promise carries demand 3, what
 // the ceiling bounds, what Sure means, and what holds for any terms. Definitions in specs/ and in crate trellis.
 ghost use mathlib.Core.Path.{_≡_};
-ghost use mathlib.Core.Bool.{false};
+ghost use mathlib.Core.Bool.{true};
 ghost use Prim.Native.Nat.{_*_};
 ghost use lib.ListN.{length, replicate};
 ghost use Rattle.ieee.specs.Whole.{plusZero};
 ghost use Rattle.frame.specs.Format.{headerBits};
-ghost use Rattle.trellis.specs.Answer.{Answer, outcomeOf};
-ghost use Rattle.trellis.specs.Numbers.{single};
-ghost use Rattle.trellis.specs.Search.{closing, candidate};
+ghost use Rattle.labels.specs.Labels.{Lawful};
 ghost use Rattle.trellis.specs.Terms.{documentSearch};
 ghost use Rattle.trellis.specs.Demand.{Claims};
-ghost use Rattle.search.specs.Found.{howIs};
-ghost use Rattle.header.specs.Read.{meaning, outcomeIs, answerIs, Room, areas, lengthsRight, headerRead, areaAfter};
-
-// How sure the word is (document 02, #107); each carries the word's score. A word that is out by closing, or is the best candidate
-// after three passes, is Sure where its score is at or above the ceiling, with the last pass run. Below it the one is Likely, with
-// its pass (2 or 3), and the other Kept. Open is the last unclosed word.
-pub enum Outcome {
-    Sure(f32, u8),
-    Likely(f32, u8),
-    Kept(f32),
-    Open(f32),
-}
+ghost use Rattle.header.specs.Read.{meaning, answerIs, Room, areas, lengthsRight, headerRead, termsRead, areaAfter};
+use outcome::Outcome;
 
 // The word has header bit j at place j from the lowest, and zeros above the last. The ceiling is the least, over the
 // passes run, of the greatest gain of a state, its end score less its start score (document 02, #106).
@@ -38,66 +26,30 @@ pub enum HeaderRead {
     Refused(u8),
 }
 
-// Whether the ceiling is above the score, at f32 as both stand.
-fn stays_below(score: f32, ceiling: f32) -> bool
-    ensures { λ r. ⌜ r ≡ single .gt ceiling score ⌝ }
-{
-    score < ceiling
-}
-
-// A word that is out by closing in a pass.
-fn closed(pass: u8, score: f32, ceiling: f32) -> Outcome
-    ensures { λ r. ⌜ outcomeIs r ≡ outcomeOf single (closing pass) score ceiling ⌝ }
-{
-    if stays_below(score, ceiling) {
-        return Outcome::Likely(score, pass);
-    }
-    Outcome::Sure(score, pass)
-}
-
-// The best candidate after three passes, whichever of them had it.
-fn best(score: f32, ceiling: f32) -> Outcome
-    ensures { λ r. ⌜ outcomeIs r ≡ outcomeOf single candidate score ceiling ⌝ }
-{
-    if stays_below(score, ceiling) {
-        return Outcome::Kept(score);
-    }
-    Outcome::Sure(score, 3)
-}
-
-// The outcome that the search's way to its word makes, with its score and the ceiling.
-fn outcome_of(how: search::How, score: f32, ceiling: f32) -> Outcome
-    ensures { λ r. ⌜ outcomeIs r ≡ outcomeOf single (howIs how) score ceiling ⌝ }
-{
-    match how {
-        search::How::Closing(pass) => closed(pass, score, ceiling),
-        search::How::Candidate => best(score, ceiling),
-        search::How::Unclosed => Outcome::Open(score),
-    }
-}
-
 // The search over accepted terms. The areas keep what the last pass left there.
 fn searched(
     mode: u8,
     kind: u8,
     terms: &[f32],
+    labels: &[u16],
     scores: &mut [f32],
     next: &mut [f32],
     start: &mut [f32],
     decisions: &mut [u64],
 ) -> HeaderAnswer
-    requires { ⌜ (length (now terms) ≡ headerBits kind * 260) × Room kind (areas (now scores) (now next) (now start) (now decisions)) ⌝ }
+    requires { ⌜ (length (now terms) ≡ headerBits kind * 260) × Room kind (areas (now scores) (now next) (now start) (now decisions))
+        × Lawful (now labels) ⌝ }
     ensures { λ r. ⌜ answerIs r ≡ documentSearch mode kind (now (terms .entry)) ⌝ }
     ensures room { λ _. ⌜ Room kind (areas (now (scores .exit)) (now (next .exit)) (now (start .exit)) (now (decisions .exit))) ⌝ }
 {
     let mut list = [0.0f32; 2048];
     steps::rows(mode, kind, terms, &mut list);
     let n = frame::header_symbols(kind) as usize;
-    let found = search::search(&list[..32 * n], scores, next, start, decisions);
+    let found = search::search(&list[..32 * n], labels, scores, next, start, decisions);
     let how = found.how;
     HeaderAnswer {
         word: found.word,
-        outcome: outcome_of(how, found.score, found.ceiling),
+        outcome: outcome::outcome_of(how, found.score, found.ceiling),
         ceiling: found.ceiling,
     }
 }
@@ -115,8 +67,15 @@ fn cleared(scores: &mut [f32], next: &mut [f32], start: &mut [f32], decisions: &
     search::clear_decisions(decisions);
 }
 
-// Whether the terms and the areas have the lengths of a header of this kind.
-fn room(kind: u8, terms: usize, scores: usize, next: usize, start: usize, decisions: usize) -> bool
+// Inside: whether the terms and the areas have the lengths of a header of this kind.
+pub fn room(
+    kind: u8,
+    terms: usize,
+    scores: usize,
+    next: usize,
+    start: usize,
+    decisions: usize,
+) -> bool
     ensures { λ r. ⌜ r ≡ lengthsRight kind terms scores next start decisions ⌝ }
 {
     let n = frame::header_symbols(kind) as usize;
@@ -133,6 +92,35 @@ fn room(kind: u8, terms: usize, scores: usize, next: usize, start: usize, decisi
         return false;
     }
     decisions == n * 256
+}
+
+// Inside: the read past the tests of the mode, the kind and the lengths, for both ways of reading: with a lent table of labels, or
+// with an empty one, and then by parity.
+pub fn read(
+    mode: u8,
+    kind: u8,
+    terms: &[f32],
+    labels: &[u16],
+    scores: &mut [f32],
+    next: &mut [f32],
+    start: &mut [f32],
+    decisions: &mut [u64],
+) -> HeaderRead
+    requires { ⌜ (lengthsRight kind (length (now terms)) (length (now scores)) (length (now next)) (length (now start)) (length (now decisions)) ≡ true)
+        × Lawful (now labels) ⌝ }
+    ensures answer { λ r. ⌜ meaning r ≡ termsRead mode kind (now (terms .entry)) ⌝ }
+    ensures of_scores { λ r. ⌜ now (scores .exit) ≡ areaAfter (meaning r) plusZero (now (scores .entry)) ⌝ }
+    ensures of_next { λ r. ⌜ now (next .exit) ≡ areaAfter (meaning r) plusZero (now (next .entry)) ⌝ }
+    ensures of_start { λ r. ⌜ now (start .exit) ≡ areaAfter (meaning r) plusZero (now (start .entry)) ⌝ }
+    ensures of_decisions { λ r. ⌜ now (decisions .exit) ≡ areaAfter (meaning r) 0 (now (decisions .entry)) ⌝ }
+    ensures claims { λ r. ⌜ ((a : HeaderAnswer) → r ≡ HeaderRead.Answer a → Claims mode kind (now (terms .entry)) (answerIs a)) ⌝ }
+{
+    if model::some_out(terms) {
+        return HeaderRead::Refused(6);
+    }
+    let answer = searched(mode, kind, terms, labels, scores, next, start, decisions);
+    cleared(scores, next, start, decisions);
+    HeaderRead::Answer(answer)
 }
 
 // Public entry: the header read (document 01, 'A header read'; document 02, #106, #107). `claims` has, for whole terms from -800 to
@@ -168,10 +156,15 @@ pub fn read_header(
     ) {
         return HeaderRead::Refused(4);
     }
-    if model::some_out(terms) {
-        return HeaderRead::Refused(6);
-    }
-    let answer = searched(mode, kind, terms, scores, next, start, decisions);
-    cleared(scores, next, start, decisions);
-    HeaderRead::Answer(answer)
+    let none = [0u16; 1];
+    read(
+        mode,
+        kind,
+        terms,
+        &none[..0],
+        scores,
+        next,
+        start,
+        decisions,
+    )
 }

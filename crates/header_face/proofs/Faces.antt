@@ -1,68 +1,52 @@
 -- A header's answer, or its refusal, as the face writes them. Assumes nothing.
 use Prim.Native.Nat.{ℕ}
+use mathlib.Core.Bool.{true}
 use mathlib.Core.List.{List}
 use mathlib.Core.Path.{_≡_, refl, sym, ap, _∙_, subst}
 use lib.Ieee.{Float}
-use Rattle.util.specs.Refusal.{Outcome, refused, accepted, number, place}
+use Rattle.util.specs.Refusal.{Cause, Outcome, refused, accepted, outcome}
+use Rattle.util.proofs.Number.{numbered, not-zero}
 use Rattle.ieee.specs.Whole.{plusZero}
 use Rattle.trellis.specs.Answer as Answer
 use Rattle.trellis.specs.Answer.{scoreIn}
-use Rattle.util.proofs.Number.{not-zero}
-use Rattle.trellis.specs.Terms.{documentSearch}
 use Rattle.trellis.specs.Demand.{Claims}
-use Rattle.header.specs.Read.{Areas, causes, headerRead, areaAfter}
+use Rattle.header.specs.Read.{Areas, meaning, answerIs, areaAfter}
+use Rattle.header.specs.declared.HeaderAnswer.{HeaderAnswer}
+use Rattle.header.specs.declared.HeaderRead.{HeaderRead}
+use Rattle.header.specs.declared.HeaderRead.the-variants.{Answer, Refused}
+use Rattle.outcome.specs.Outcome.{outcomeIs}
 use Rattle.outcome.specs.Numbers.{outcomeNumber, passNumber}
 use Rattle.outcome.proofs.Back.{named-back}
-use Rattle.header_face.specs.Face.{Lent, lent, answerAt, Faced}
+use Rattle.header_face.specs.Face.{Lent, lent, answerAt, Told, Faced}
 
--- the areas, by what the entry says of each
-module _ (o m : Outcome (Answer.Answer Float)) (w w′ : Areas) (e : m ≡ o)
-    (scores : w′ .scores ≡ areaAfter m plusZero (w .scores)) (next : w′ .next ≡ areaAfter m plusZero (w .next))
-    (start : w′ .start ≡ areaAfter m plusZero (w .start)) (decisions : w′ .decisions ≡ areaAfter m 0 (w .decisions)) (was : Lent) where
-  pub answered : (a : Answer.Answer Float) (outcome pass : ℕ) (score : Float) → accepted a ≡ m
-      → outcome ≡ outcomeNumber (a .outcome) → pass ≡ passNumber (a .outcome) → score ≡ scoreIn (a .outcome)
-      → Faced o w w′ was (lent (a .word) outcome pass score (a .ceiling)) 0
-  answered a outcome pass score f p q r =
-      subst (λ (x : Outcome (Answer.Answer Float)). Faced x w w′ was (lent (a .word) outcome pass score (a .ceiling)) 0) e
-      (record {
-        answer = ap number f;
-        of-word = ap (λ (x : Outcome (Answer.Answer Float)). place (λ (b : Answer.Answer Float). b .word) x (was .word)) f;
-        of-outcome = p ∙ ap (λ (x : Outcome (Answer.Answer Float)). place (λ (b : Answer.Answer Float). outcomeNumber (b .outcome)) x (was .outcome)) f;
-        of-pass = q ∙ ap (λ (x : Outcome (Answer.Answer Float)). place (λ (b : Answer.Answer Float). passNumber (b .outcome)) x (was .pass)) f;
-        of-score = r ∙ ap (λ (x : Outcome (Answer.Answer Float)). place (λ (b : Answer.Answer Float). scoreIn (b .outcome)) x (was .score)) f;
-        of-ceiling = ap (λ (x : Outcome (Answer.Answer Float)). place (λ (b : Answer.Answer Float). b .ceiling) x (was .ceiling)) f;
-        of-scores = scores;
-        of-next = next;
-        of-start = start;
-        of-decisions = decisions;
-      })
+-- the number and the places of an answer, and of a refusal
+pub answered : {h : HeaderRead} (was : Lent) (a : HeaderAnswer) {number pass : ℕ} {score : Float} → h ≡ Answer a
+    → number ≡ outcomeNumber (outcomeIs (a .outcome)) → pass ≡ passNumber (outcomeIs (a .outcome)) → score ≡ scoreIn (outcomeIs (a .outcome))
+    → Told (meaning h) was (lent (a .word) number pass score (a .ceiling)) 0
+answered was a {number} {pass} {score} e p q r =
+    subst (λ (h : HeaderRead). Told (meaning h) was (lent (a .word) number pass score (a .ceiling)) 0) (sym e)
+    (record { answer = refl; of-word = refl; of-outcome = p; of-pass = q; of-score = r; of-ceiling = refl })
 
-  pub refused-face : (k : ℕ) → refused k ≡ m → Faced o w w′ was was k
-  refused-face k f =
-      subst (λ (x : Outcome (Answer.Answer Float)). Faced x w w′ was was k) e
-      (record {
-        answer = ap number f;
-        of-word = ap (λ (x : Outcome (Answer.Answer Float)). place (λ (b : Answer.Answer Float). b .word) x (was .word)) f;
-        of-outcome = ap (λ (x : Outcome (Answer.Answer Float)). place (λ (b : Answer.Answer Float). outcomeNumber (b .outcome)) x (was .outcome)) f;
-        of-pass = ap (λ (x : Outcome (Answer.Answer Float)). place (λ (b : Answer.Answer Float). passNumber (b .outcome)) x (was .pass)) f;
-        of-score = ap (λ (x : Outcome (Answer.Answer Float)). place (λ (b : Answer.Answer Float). scoreIn (b .outcome)) x (was .score)) f;
-        of-ceiling = ap (λ (x : Outcome (Answer.Answer Float)). place (λ (b : Answer.Answer Float). b .ceiling) x (was .ceiling)) f;
-        of-scores = scores;
-        of-next = next;
-        of-start = start;
-        of-decisions = decisions;
-      })
+pub refused-told : {h : HeaderRead} (was : Lent) {k : ℕ} → h ≡ Refused k → Told (meaning h) was was k
+refused-told was {k} e =
+    subst (λ (h : HeaderRead). Told (meaning h) was was k) (sym e)
+    (record { answer = refl; of-word = refl; of-outcome = refl; of-pass = refl; of-score = refl; of-ceiling = refl })
 
--- what is claimed of the answer is claimed of what the five places hold
-pub claimed : {mode kind : ℕ} {terms : List Float} {a : Answer.Answer Float} {outcome pass : ℕ} {score : Float} → outcome ≡ outcomeNumber (a .outcome)
-    → pass ≡ passNumber (a .outcome) → score ≡ scoreIn (a .outcome) → Claims mode kind terms a
-    → Claims mode kind terms (answerAt (lent (a .word) outcome pass score (a .ceiling)))
-claimed {mode} {kind} {terms} {a} p q r h =
-    subst (Claims mode kind terms) (sym ((λ i. answerAt (lent (a .word) (p i) (q i) (r i) (a .ceiling)))
-    ∙ ap (λ (o : Answer.Outcome Float). record { word = a .word; outcome = o; ceiling = a .ceiling }) (named-back (a .outcome)))) h
+-- with the areas as the read leaves them, it is the entry's outcome that is told
+pub faced : (h : HeaderRead) {o : Outcome (Answer.Answer Float)} {w w′ : Areas} {was new : Lent} {r : ℕ} → meaning h ≡ o → Told (meaning h) was new r
+    → w′ .scores ≡ areaAfter (meaning h) plusZero (w .scores) → w′ .next ≡ areaAfter (meaning h) plusZero (w .next)
+    → w′ .start ≡ areaAfter (meaning h) plusZero (w .start) → w′ .decisions ≡ areaAfter (meaning h) 0 (w .decisions) → Faced o w w′ was new r
+faced h {w = w} {w′ = w′} {was = was} {new = new} {r = r} e t scores next start decisions =
+    subst (λ (o : Outcome (Answer.Answer Float)). Faced o w w′ was new r) e
+    (record { told = t; of-scores = scores; of-next = next; of-start = start; of-decisions = decisions })
 
--- and a refusal's number is not 0
-pub not-read : (mode kind : ℕ) (terms : List Float) (w : Areas) (k : ℕ) → refused k ≡ headerRead mode kind terms w → k ≡ 0 → ⊥
-not-read mode kind terms w k e z =
-    not-zero (causes mode kind terms w) (documentSearch mode kind terms) refl
-    (sym (subst (λ (n : ℕ). refused n ≡ headerRead mode kind terms w) z e))
+-- where the number is 0, what the entry claims of its answer is claimed of what the five places hold: a refusal's number is not 0
+pub claimed : (h : HeaderRead) {mode kind : ℕ} {terms : List Float} {was new : Lent} {r : ℕ} (cs : List Cause) (x : Answer.Answer Float)
+    → numbered cs ≡ true → meaning h ≡ outcome cs x → Told (meaning h) was new r
+    → ((a : HeaderAnswer) → h ≡ Answer a → Claims mode kind terms (answerIs a)) → r ≡ 0 → Claims mode kind terms (answerAt new)
+claimed (Answer a) {mode} {kind} {terms} cs x n e t of z =
+    subst (Claims mode kind terms)
+    (sym ((λ i. answerAt (lent (t .of-word i) (t .of-outcome i) (t .of-pass i) (t .of-score i) (t .of-ceiling i)))
+    ∙ ap (λ (o : Answer.Outcome Float). record { word = a .word; outcome = o; ceiling = a .ceiling }) (named-back (outcomeIs (a .outcome)))))
+    (of a refl)
+claimed (Refused k) cs x n e t of z = absurd (not-zero cs x n (sym e ∙ ap refused (sym (t .answer) ∙ z)))

@@ -13,8 +13,8 @@ ghost use mathlib.Core.Path.{_≡_};
 // The number of the last change request that is in, 0 for the base, in the symbol's name too: a header of another version
 // asks for another symbol and does not link.
 #[no_mangle]
-pub extern "C" fn ion_version_110() -> u32
-    ensures { λ r. ⌜ r ≡ 110 ⌝ }
+pub extern "C" fn ion_version_111() -> u32
+    ensures { λ r. ⌜ r ≡ 111 ⌝ }
 {
-    110
+    111
 }

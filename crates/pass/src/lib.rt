@@ -1,11 +1,13 @@
 // One pass of the header's Viterbi search over a tail-biting code, which is wrapped around at most three times (crate
-// search): a step, a pass, its end state and its top over lent areas (fec/conv.rs: `pass`). What the areas hold is document 01's
-// search, as crate trellis defines it, at f32.
+// search): a step, a pass, its end state and its top over lent areas (fec/conv.rs: `pass`). Labels come from a lent table, or by
+// parity where none is lent (crate labels). What the areas hold is document 01's search, as crate trellis defines it, at f32.
 ghost use mathlib.Core.Path.{_≡_};
 ghost use Prim.Native.Nat.{_*_, _<_, _≤_};
 ghost use lib.ListN.{length};
 ghost use lib.Ieee.{lt};
 ghost use Rattle.util.specs.Choose.{choose};
+ghost use Rattle.conv.specs.Label.{labelOf};
+ghost use Rattle.labels.specs.Labels.{Lawful};
 ghost use Rattle.trellis.specs.Scale.{highest};
 ghost use Rattle.trellis.specs.Numbers.{single};
 ghost use Rattle.trellis.specs.Search.{brings};
@@ -28,27 +30,37 @@ fn greater(a: f32, b: f32) -> f32
 
 // The path metric that register r brings at step j: that of the state it comes from, its score, and the branch metric,
 // which is the metric of the register's label.
-fn path_metric(scores: &[f32], metrics: &[f32], j: usize, r: usize) -> f32
+fn path_metric(scores: &[f32], metrics: &[f32], j: usize, r: usize, label: usize) -> f32
     requires { ⌜ Metrics (now metrics) ⌝ }
-    requires { ⌜ (length (now scores) ≡ 16384) × (j < stepsIn (now metrics)) × (r < 32768) ⌝ }
+    requires { ⌜ (length (now scores) ≡ 16384) × (j < stepsIn (now metrics)) × (r < 32768) × (label ≡ labelOf r) ⌝ }
     ensures { λ x. ⌜ x ≡ brings (over (now (metrics .entry))) (table (now (scores .entry))) j r ⌝ }
 {
-    scores[r / 2] + metrics[j * 32 + (conv::label(r as u32) as usize)]
+    scores[r / 2] + metrics[j * 32 + label]
 }
 
-// The 64 states of word w at step j, the last one first. The answer has their decisions.
-fn states(scores: &[f32], metrics: &[f32], j: usize, w: usize, next: &mut [f32]) -> u64
-    requires { ⌜ Metrics (now metrics) ⌝ }
+// The 64 states of word w at step j, the last one first. The answer has their decisions. A state's two registers differ in
+// the oldest bit, so their labels differ in all five.
+fn states(
+    scores: &[f32],
+    metrics: &[f32],
+    labels: &[u16],
+    j: usize,
+    w: usize,
+    next: &mut [f32],
+) -> u64
+    requires { ⌜ Metrics (now metrics) × Lawful (now labels) ⌝ }
     requires { ⌜ (length (now scores) ≡ 16384) × (j < stepsIn (now metrics)) × (w < 256) × (length (now next) ≡ 16384) ⌝ }
     ensures { λ r. ⌜ Word (now (metrics .entry)) (now (scores .entry)) j w (now (next .entry)) (now (next .exit)) r ⌝ }
 {
+    let row = labels::row(labels, w * 64);
     let mut word = 0u64;
     let mut k = 64usize;
     while 0 < k {
         k -= 1;
         let s = w * 64 + k;
-        let a = path_metric(scores, metrics, j, s);
-        let b = path_metric(scores, metrics, j, s + 16384);
+        let label = row[k] as usize;
+        let a = path_metric(scores, metrics, j, s, label);
+        let b = path_metric(scores, metrics, j, s + 16384, label ^ 31);
         next[s] = greater(a, b);
         word = word * 2 + decision(a, b);
     }
@@ -57,15 +69,22 @@ fn states(scores: &[f32], metrics: &[f32], j: usize, w: usize, next: &mut [f32])
 
 // All states of step j from `scores`, which stay as they were: their scores go to `next`, their decisions to the step's
 // 256 words.
-fn step(scores: &[f32], metrics: &[f32], j: usize, next: &mut [f32], decisions: &mut [u64])
-    requires { ⌜ Metrics (now metrics) ⌝ }
+fn step(
+    scores: &[f32],
+    metrics: &[f32],
+    labels: &[u16],
+    j: usize,
+    next: &mut [f32],
+    decisions: &mut [u64],
+)
+    requires { ⌜ Metrics (now metrics) × Lawful (now labels) ⌝ }
     requires { ⌜ (length (now scores) ≡ 16384) × (j < stepsIn (now metrics)) × (length (now next) ≡ 16384)
         × (length (now decisions) ≡ stepsIn (now metrics) * 256) ⌝ }
     ensures { λ _. ⌜ Stepped (now (metrics .entry)) (now (scores .entry)) j (now (next .exit)) (now (decisions .entry)) (now (decisions .exit)) ⌝ }
 {
     let mut w = 0usize;
     while w < 256 {
-        decisions[j * 256 + w] = states(scores, metrics, j, w, next);
+        decisions[j * 256 + w] = states(scores, metrics, labels, j, w, next);
         w += 1;
     }
 }
@@ -73,18 +92,19 @@ fn step(scores: &[f32], metrics: &[f32], j: usize, next: &mut [f32], decisions: 
 // The first two steps of a pass, from the start scores, which stay as they were.
 fn opening(
     metrics: &[f32],
+    labels: &[u16],
     scores: &mut [f32],
     next: &mut [f32],
     start: &[f32],
     decisions: &mut [u64],
 )
-    requires { ⌜ Metrics (now metrics) ⌝ }
+    requires { ⌜ Metrics (now metrics) × Lawful (now labels) ⌝ }
     requires { ⌜ (length (now scores) ≡ 16384) × (length (now next) ≡ 16384) × (length (now start) ≡ 16384)
         × (length (now decisions) ≡ stepsIn (now metrics) * 256) ⌝ }
     ensures { λ _. ⌜ Turned (now (metrics .entry)) (table (now (start .entry))) 2 (now (scores .exit)) (now (next .exit)) (now (decisions .exit)) ⌝ }
 {
-    step(start, metrics, 0, next, decisions);
-    step(next, metrics, 1, scores, decisions);
+    step(start, metrics, labels, 0, next, decisions);
+    step(next, metrics, labels, 1, scores, decisions);
 }
 
 // Inside: a pass from the start scores, which stay as they were. `next` and `scores` take turns as a step's target and
@@ -92,22 +112,23 @@ fn opening(
 // `next` those that the last step started from.
 pub fn pass(
     metrics: &[f32],
+    labels: &[u16],
     scores: &mut [f32],
     next: &mut [f32],
     start: &[f32],
     decisions: &mut [u64],
 )
-    requires { ⌜ Metrics (now metrics) ⌝ }
+    requires { ⌜ Metrics (now metrics) × Lawful (now labels) ⌝ }
     requires { ⌜ (length (now scores) ≡ 16384) × (length (now next) ≡ 16384) × (length (now start) ≡ 16384)
         × (length (now decisions) ≡ stepsIn (now metrics) * 256) ⌝ }
     ensures { λ _. ⌜ Turned (now (metrics .entry)) (table (now (start .entry))) (stepsIn (now (metrics .entry))) (now (scores .exit)) (now (next .exit)) (now (decisions .exit)) ⌝ }
 {
-    opening(metrics, scores, next, start, decisions);
+    opening(metrics, labels, scores, next, start, decisions);
     let steps = metrics.len() / 32;
     let mut j = 2usize;
     while j < steps {
-        step(scores, metrics, j, next, decisions);
-        step(next, metrics, j + 1, scores, decisions);
+        step(scores, metrics, labels, j, next, decisions);
+        step(next, metrics, labels, j + 1, scores, decisions);
         j += 2;
     }
 }

@@ -7,6 +7,7 @@ ghost use lib.ListN.{length, replicate};
 ghost use lib.Dec.{eqb};
 ghost use lib.Ieee.{sub, binary32};
 ghost use Rattle.util.specs.Choose.{choose};
+ghost use Rattle.labels.specs.Labels.{Lawful};
 ghost use Rattle.ieee.specs.Whole.{plusZero};
 ghost use Rattle.trellis.specs.Scale.{lesser};
 ghost use Rattle.trellis.specs.Numbers.{single};
@@ -88,16 +89,17 @@ fn found_by(metrics: &[f32], scores: &[f32], start: &[f32], decisions: &[u64]) -
 // A pass from what `start` holds, and its traceback.
 fn run(
     metrics: &[f32],
+    labels: &[u16],
     scores: &mut [f32],
     next: &mut [f32],
     start: &[f32],
     decisions: &mut [u64],
 ) -> Traceback
-    requires { ⌜ Lent (now metrics) (now scores) (now next) (now start) (now decisions) ⌝ }
+    requires { ⌜ Lent (now metrics) (now scores) (now next) (now start) (now decisions) × Lawful (now labels) ⌝ }
     ensures { λ r. ⌜ Passed (now (metrics .entry)) (table (now (start .entry))) (now (scores .exit)) (now (decisions .exit)) r ⌝ }
     ensures lent { λ _. ⌜ Lent (now (metrics .entry)) (now (scores .exit)) (now (next .exit)) (now (start .entry)) (now (decisions .exit)) ⌝ }
 {
-    pass::pass(metrics, scores, next, start, decisions);
+    pass::pass(metrics, labels, scores, next, start, decisions);
     found_by(metrics, scores, start, decisions)
 }
 
@@ -151,15 +153,17 @@ fn best_or_last(best: Best, last: Traceback, ceiling: f32) -> Found
 }
 
 // Inside: the search, three passes at most; a word out by closing ends it. Its ceiling is the least of the passes' tops.
-// It leaves the start scores, end scores and decisions of the last pass in the areas.
+// Its labels come from the lent table; where that is empty, by parity. It leaves the start scores, end scores and decisions of
+// the last pass in the areas.
 pub fn search(
     metrics: &[f32],
+    labels: &[u16],
     scores: &mut [f32],
     next: &mut [f32],
     start: &mut [f32],
     decisions: &mut [u64],
 ) -> Found
-    requires { ⌜ Lent (now metrics) (now scores) (now next) (now start) (now decisions) ⌝ }
+    requires { ⌜ Lent (now metrics) (now scores) (now next) (now start) (now decisions) × Lawful (now labels) ⌝ }
     ensures { λ r. ⌜ foundIs r ≡ Search.search (over (now (metrics .entry))) ⌝ }
     ensures ceiling { λ r. ⌜ r .ceiling ≡ Search.ceiling (over (now (metrics .entry))) ⌝ }
     ensures lent { λ _. ⌜ Lent (now (metrics .entry)) (now (scores .exit)) (now (next .exit)) (now (start .exit)) (now (decisions .exit)) ⌝ }
@@ -170,7 +174,7 @@ pub fn search(
     let mut ceiling = 0.0f32;
     let mut pass = 1u8;
     loop {
-        let t = run(metrics, scores, next, start, decisions);
+        let t = run(metrics, labels, scores, next, start, decisions);
         let low = ceiling_after(pass, ceiling, t.gain);
         if t.closed {
             return Found {

@@ -6,7 +6,7 @@ use burst_text::output::finish;
 use burst_text::output::hex;
 use burst_text::output::nothing;
 use burst_text::output::text;
-use header::Outcome;
+use outcome::Outcome;
 use slip::Slip;
 use slip::SlipRead;
 

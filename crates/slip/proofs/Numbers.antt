@@ -10,9 +10,9 @@ use lib.Ieee.{Float}
 use Rattle.util.specs.Choose.{choose}
 use Rattle.trellis.specs.Answer as Answer
 use Rattle.trellis.specs.Answer.{scoreIn}
-use Rattle.header.specs.Read.{outcomeIs}
-use Rattle.header.specs.declared.Outcome.{Outcome}
-use Rattle.header.specs.declared.Outcome.the-variants.{Sure, Likely, Kept, Open}
+use Rattle.outcome.specs.Outcome.{outcomeIs}
+use Rattle.outcome.specs.declared.Outcome.{Outcome}
+use Rattle.outcome.specs.declared.Outcome.the-variants.{Sure, Likely, Kept, Open}
 use Rattle.outcome.specs.Numbers.{outcomeNumber, passNumber, outcomeAt}
 use Rattle.outcome.proofs.Back.{one-outcome}
 use Rattle.slip.specs.Lawful.{passGoes}

@@ -9,7 +9,7 @@ use lib.ListN.{length, getD}
 use Rattle.util.specs.Refusal.{Cause, Outcome, refused, accepted, outcome, afterwards}
 use Rattle.trellis.specs.Answer as Answer
 use Rattle.trellis.specs.Answer.{Answer, scoreIn}
-use Rattle.header.specs.Read.{outcomeIs}
+use Rattle.outcome.specs.Outcome.{outcomeIs}
 use Rattle.outcome.specs.Numbers.{outcomeNumber, passNumber}
 use Rattle.wire.specs.Bytes.{numberAt}
 use Rattle.slip.specs.Spelling.{spell}

@@ -19,7 +19,7 @@ pub struct Slip {
     pub mode: u8,
     pub kind: u8,
     pub word: u64,
-    pub outcome: header::Outcome,
+    pub outcome: outcome::Outcome,
     pub start: u64,
     pub segment: u16,
 }

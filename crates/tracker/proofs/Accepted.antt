@@ -13,7 +13,7 @@ use Rattle.util.specs.Choose.{choose}
 use Rattle.util.specs.Refusal.{Outcome, refused, accepted, afterwards}
 use Rattle.util.proofs.Choose.{chosen, not-chosen, past-cause}
 use Rattle.util.proofs.Some.{neither}
-use Rattle.blocks.specs.Doubles.{every}
+use Rattle.util.specs.Every.{every}
 use Rattle.tracker.specs.Rule.{blockLength, inWholeBlocks, countKept, driftKept, sumsKept, shiftKept, inRange}
 use Rattle.tracker.specs.Inside.{ruleWith, answerWith}
 use Rattle.tracker.specs.declared.Sample.{Sample}

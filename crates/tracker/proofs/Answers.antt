@@ -12,7 +12,7 @@ use lib.ListN.{length}
 use Rattle.util.specs.Choose.{choose}
 use Rattle.util.specs.Refusal.{Outcome, refused}
 use Rattle.util.proofs.Choose.{chosen}
-use Rattle.blocks.specs.Doubles.{every}
+use Rattle.util.specs.Every.{every}
 use Rattle.blocks.specs.Blocks.{goodAt}
 use Rattle.blocks.specs.Inside.{Gathers}
 use Rattle.blocks.specs.declared.Block.{Block}

@@ -10,7 +10,8 @@ use Rattle.ieee.specs.Whole.{plusZero, isZero}
 use Rattle.util.specs.Choose.{choose}
 use Rattle.util.specs.Refusal.{Cause, Outcome, refused, accepted, outcome}
 use Rattle.frame.specs.Format.{formatOf}
-use Rattle.blocks.specs.Doubles.{asF64, within, every}
+use Rattle.util.specs.Every.{every}
+use Rattle.blocks.specs.Doubles.{asF64, within}
 use Rattle.blocks.specs.Blocks.{place2At}
 use Rattle.blocks.specs.declared.Block.{Block}
 use Rattle.fit.specs.Fit.{limitOf, goodBlocks}

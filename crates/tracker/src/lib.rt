@@ -6,7 +6,7 @@ ghost use lib.ListN.{length, getD};
 ghost use lib.Dec.{leb, eqb};
 ghost use lib.IntN.{pos};
 ghost use mathlib.Core.Bool.{not, _&&_, _||_};
-ghost use Rattle.blocks.specs.Doubles.{every};
+ghost use Rattle.util.specs.Every.{every};
 ghost use Rattle.tracker.specs.Rule.{freshOf, blockLength, waiting, inWholeBlocks, countKept, driftKept, sumsKept, shiftKept};
 ghost use Rattle.tracker.specs.Rule.{energy, inRange, meaning};
 ghost use Rattle.tracker.specs.Inside.{ruleWith, answerIn, Readable};
@@ -105,13 +105,6 @@ fn shift_kept(z: i32) -> bool
     if -2048 <= z { z <= 2048 } else { false }
 }
 
-// Whether both hold.
-fn both(a: bool, b: bool) -> bool
-    ensures { λ r. ⌜ r ≡ a && b ⌝ }
-{
-    if a { b } else { false }
-}
-
 // Whether the first n stored shifts lie within ±2,048. All are looked at, with no way out between, so that several go at once.
 fn stored_kept(shifts: &[i32], n: usize) -> bool
     requires { ⌜ n ≤ length (now shifts) ⌝ }
@@ -120,7 +113,7 @@ fn stored_kept(shifts: &[i32], n: usize) -> bool
     let mut kept = true;
     for j in 0..n {
         let z = shifts[j];
-        kept = both(kept, shift_kept(z));
+        kept = util::both(kept, shift_kept(z));
     }
     kept
 }

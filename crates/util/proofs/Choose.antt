@@ -6,7 +6,7 @@ use mathlib.Core.Path.{_≡_, refl, ap}
 use native.Mathlib.Omega.{arith}
 use mir.Val.{boolByte}
 use Rattle.util.specs.Choose.{choose}
-use Rattle.util.specs.Refusal.{Cause, Outcome, refused, accepted, outcome}
+use Rattle.util.specs.Refusal.{Cause, Outcome, refused, accepted, outcome, number}
 
 module _ {A : Type 0} {t : Bool} (a b : A) where
   pub chosen : t ≡ true → choose t a b ≡ a
@@ -36,6 +36,18 @@ past-cause true k rest x e =
     let never : _≡_ {A = ℕ} 0 1 = cc in
     absurd (omega arith)
 past-cause false k rest x e = (refl, e)
+
+-- it was refused by another number: the first cause is not there, and the rest refuses
+pub past-other : {A : Type 0} (h : Bool) (j k : ℕ) (rest : Outcome A) → (j ≡ k → ⊥) → choose h (refused j) rest ≡ refused k
+    → (h ≡ false) × (rest ≡ refused k)
+past-other true j k rest other e = absurd (other (ap number e))
+past-other false j k rest other e = (refl, e)
+
+-- what is accepted is not refused
+pub not-refused : {A : Type 0} (x : A) (k : ℕ) → accepted x ≡ refused k → ⊥
+not-refused x k e =
+    let never : _≡_ {A = ℕ} 0 1 = cc in
+    absurd (omega arith)
 
 -- a second cause that is not there may be left out
 pub without-second : {A : Type 0} (c d : Cause) (cs : List Cause) (a : A) → d .holds ≡ false → outcome (c ∷ d ∷ cs) a ≡ outcome (c ∷ cs) a

@@ -27,9 +27,9 @@ afterwards (refused k) was new = was
 afterwards (accepted a) was new = new
 
 -- the order in which causes come before each other, for every entry: document 01's numbers rise, and document 02 says
--- of each of its own which number it comes after (11 after 5, 12 after 1, 13 after 10, 14 after 13, 15 after 6)
+-- of each of its own which number it comes after (11 after 5, 12 after 1, 13 after 10, 14 after 13, 15 after 6, 16 after 4)
 abbrev pub precedence : List ℕ
-precedence = 1 ∷ 12 ∷ 2 ∷ 3 ∷ 4 ∷ 5 ∷ 11 ∷ 6 ∷ 15 ∷ 7 ∷ 8 ∷ 9 ∷ 10 ∷ 13 ∷ 14 ∷ []
+precedence = 1 ∷ 12 ∷ 2 ∷ 3 ∷ 4 ∷ 16 ∷ 5 ∷ 11 ∷ 6 ∷ 15 ∷ 7 ∷ 8 ∷ 9 ∷ 10 ∷ 13 ∷ 14 ∷ []
 
 -- the causes' numbers stand in that order, none twice: each is found in what is left of the order after the one before
 abbrev pub inOrder : List ℕ → List Cause → Bool

@@ -1,12 +1,20 @@
 // Numbers of the air format (phy_mfsk/util.rs): SplitMix64, the Gray code, the CRC and the
 // interleaver's multiplier, which is a public entry. Their definitions are in specs/.
 ghost use mathlib.Core.Path.{_≡_};
+ghost use mathlib.Core.Bool.{_&&_};
 ghost use Prim.Native.Nat.{_-_, _*_, _≤_, _%_, _^_};
 ghost use Rattle.util.specs.SplitMix.{firstOutput};
 ghost use Rattle.util.specs.Gray.{grayOf};
 ghost use Rattle.util.specs.Crc.{crcStep, crcOf};
 ghost use Rattle.util.specs.Factor.{gcdOf};
 ghost use Rattle.util.specs.Multiplier.{startOf, pairs, suits, firstOf, multOf, meaning, multiplier};
+
+// Inside: whether both hold. A loop that gathers a test with it has no way out between, so that many turns go at once.
+pub fn both(a: bool, b: bool) -> bool
+    ensures { λ r. ⌜ r ≡ a && b ⌝ }
+{
+    if a { b } else { false }
+}
 
 // Inside: a * b modulo 2^64, by halves of 32 bits: the product of the upper halves falls out.
 pub fn wrapping_mul_u64(a: u64, b: u64) -> u64

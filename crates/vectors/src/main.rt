@@ -7,6 +7,7 @@ mod bursts;
 mod read;
 mod sending;
 mod slips;
+mod tables;
 
 fn mult(n: u64) -> u64 {
     let mut factor = 0u64;
@@ -95,6 +96,7 @@ fn answer(what: u8, asked: u64) -> u64 {
         11 => probe::probe_has_window((asked % 256) as u8, ((asked >> 8) % 65536) as u32),
         12 | 13 => sending::answer(what, asked),
         15 | 152 => slips::answer(what, asked),
+        153 => tables::answer(asked),
         14 => crc(((asked >> 24) % 256) as u8, asked),
         _ => long(what, asked),
     }

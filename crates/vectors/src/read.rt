@@ -1,4 +1,4 @@
-// A header read by a record: what is 64 + part + 3·(kind + 3·mode), or for its ceiling 82 + kind + 3·mode, and the argument
+// A header read by a record, with labels filled in advance and by parity: what is 64 + part + 3·(kind + 3·mode), or for its ceiling 82 + kind + 3·mode, and the argument
 // is a seed. The terms are small whole numbers worked out from the seed, with the values of a header raised by up to 7.
 ghost use lib.ListN.{length};
 ghost use mathlib.Core.Path.{_≡_};
@@ -50,18 +50,18 @@ pub fn bits(score: f32) -> u64 {
     records::NONE
 }
 
-// The part of an answer that a record holds: its word, its outcome and pass, its score, or its ceiling.
-fn part_of(part: u8, word: u64, outcome: u8, pass: u8, score: f32, ceiling: f32) -> u64 {
-    match part {
-        0 => word,
-        1 => (outcome as u64) + ((pass as u64) << 4),
-        2 => bits(score),
-        _ => bits(ceiling),
-    }
+// A header as read: 0 or the refusal's number, and the five places.
+pub struct Answer {
+    number: u32,
+    word: u64,
+    outcome: u8,
+    pass: u8,
+    score: f32,
+    ceiling: f32,
 }
 
-// That part of what is read in the terms, over areas of its own.
-fn heard(mode: u8, kind: u8, part: u8, terms: &[f32], decisions: &mut [u64]) -> u64 {
+// What is read in the terms with these labels, over areas of its own; by parity where there are none.
+pub fn heard(mode: u8, kind: u8, terms: &[f32], labels: &[u16], decisions: &mut [u64]) -> Answer {
     let mut scores = [0.0f32; 16384];
     let mut next = [0.0f32; 16384];
     let mut start = [0.0f32; 16384];
@@ -70,24 +70,103 @@ fn heard(mode: u8, kind: u8, part: u8, terms: &[f32], decisions: &mut [u64]) -> 
     let mut pass = 0u8;
     let mut score = 0.0f32;
     let mut ceiling = 0.0f32;
-    let k = ion::read::ion_read_header(
-        mode,
-        kind,
-        terms,
-        &mut scores,
-        &mut next,
-        &mut start,
-        decisions,
-        &mut word,
-        &mut outcome,
-        &mut pass,
-        &mut score,
-        &mut ceiling,
-    );
-    if k != 0 {
-        return records::refusal(k);
+    let number = if labels.len() == 0 {
+        ion::read::ion_read_header(
+            mode,
+            kind,
+            terms,
+            &mut scores,
+            &mut next,
+            &mut start,
+            decisions,
+            &mut word,
+            &mut outcome,
+            &mut pass,
+            &mut score,
+            &mut ceiling,
+        )
+    } else {
+        ion::read::ion_read_header_with(
+            mode,
+            kind,
+            terms,
+            labels,
+            &mut scores,
+            &mut next,
+            &mut start,
+            decisions,
+            &mut word,
+            &mut outcome,
+            &mut pass,
+            &mut score,
+            &mut ceiling,
+        )
+    };
+    Answer {
+        number,
+        word,
+        outcome,
+        pass,
+        score,
+        ceiling,
     }
-    part_of(part, word, outcome, pass, score, ceiling)
+}
+
+// The part of an answer that a record holds: its word, its outcome and pass, its score, or its ceiling.
+fn part_of(part: u8, h: Answer) -> u64 {
+    if h.number != 0 {
+        return records::refusal(h.number);
+    }
+    match part {
+        0 => h.word,
+        1 => (h.outcome as u64) + ((h.pass as u64) << 4),
+        2 => bits(h.score),
+        _ => bits(h.ceiling),
+    }
+}
+
+// That part by both ways of reading, where they agree (document 02, #111).
+fn both_ways(mode: u8, kind: u8, part: u8, terms: &[f32], decisions: &mut [u64]) -> u64 {
+    let mut labels = [0u16; 32768];
+    if ion::read::ion_fill_labels(&mut labels) != 0 {
+        return records::NONE;
+    }
+    let plain = part_of(part, heard(mode, kind, terms, &labels[..0], decisions));
+    let with = part_of(part, heard(mode, kind, terms, &labels, decisions));
+    if plain == with { plain } else { records::NONE }
+}
+
+fn mixed(h: u64, x: u64) -> u64 {
+    probe::probe_mix64(h ^ x)
+}
+
+// The refusal, or a digest of the five places.
+pub fn digest(seed: u64, h: Answer) -> u64 {
+    if h.number != 0 {
+        return records::refusal(h.number);
+    }
+    let told = mixed(
+        mixed(seed, h.word),
+        (h.outcome as u64) + ((h.pass as u64) << 4),
+    );
+    mixed(mixed(told, bits(h.score)), bits(h.ceiling))
+}
+
+// The terms of the header of the lent bits, in lists of its kind's lengths; whether there are any.
+pub fn drawn(
+    mode: u8,
+    kind: u8,
+    seed: u64,
+    bits: &[u8],
+    values: &mut [u8],
+    terms: &mut [f32],
+) -> bool {
+    if ion::air::ion_header_values(mode, kind, bits, values) != 0 {
+        return false;
+    }
+    fill(seed, terms);
+    raise(mode, seed, values, terms);
+    true
 }
 
 // Reads the header of the lent bits, with lists of its kind's lengths.
@@ -101,12 +180,10 @@ fn read(
     terms: &mut [f32],
     decisions: &mut [u64],
 ) -> u64 {
-    if ion::air::ion_header_values(mode, kind, bits, values) != 0 {
+    if !drawn(mode, kind, seed, bits, values, terms) {
         return records::NONE;
     }
-    fill(seed, terms);
-    raise(mode, seed, values, terms);
-    heard(mode, kind, part, terms, decisions)
+    both_ways(mode, kind, part, terms, decisions)
 }
 
 // A part of the answer to the header of a seed.

@@ -56,7 +56,7 @@ use Rattle.blocks.specs.Blocks.{nowhere}
 use Rattle.blocks.specs.Inside.{nothing, pushOf, Gathers}
 use Rattle.blocks.specs.declared.Block.{Block}
 use Rattle.blocks.specs.declared.Gathered.{Gathered}
-use Rattle.blocks.proofs.Further.{scaled}
+use Rattle.blocks.proofs.Memory.{scaled}
 use Rattle.blocks.proofs.Gathering.{gathers-none, gathers-more}
 use Rattle.blocks.proofs.Block as T
 use Rattle.blocks.proofs.Block.Laws as T′

@@ -47,7 +47,7 @@ use denote.Triple.Walked.{says, Stays, stay-none, stay-slice, walkOf, goes-none,
 use denote.Exit.{yes}
 use Rattle.blocks.specs.Blocks.{nowhere}
 use Rattle.blocks.specs.declared.Block.{Block}
-use Rattle.blocks.proofs.Further.{scaled}
+use Rattle.blocks.proofs.Memory.{scaled}
 use Rattle.blocks.proofs.Block as T
 use Rattle.blocks.proofs.Block.Laws as T′
 use Rattle.blocks.proofs.put_if.Key.{name as #blocks·put-if}

@@ -1,17 +1,11 @@
--- `header::read_header` meets its contract: each refusal by the tests that led there and no store; the answer is the search's, all that is claimed
--- of it holds (`claims` of crate trellis), and the areas are cleared. Assumes nothing.
+-- `header::read_header` meets its contract: the first two refusals by the tests that led there and no store; all else is `header::read`'s, with no
+-- table of labels. Assumes nothing.
 use Prim.Native.Nat.{ℕ}
-use mathlib.Core.Path.{_≡_, refl, sym, ap, subst, _∙_}
+use mathlib.Core.Path.{_≡_, refl, sym, _∙_}
+use native.Mathlib.Nat.{not-suc-le-zero}
 use native.Mathlib.Omega.{arith}
 use borrow.Author.Needs.{needs}
 use borrow.Author.Tests.{not-true, not-false}
-use lib.ListN.{replicate}
-use Rattle.header.proofs.Lengths.{terms-right, room-right}
-use Rattle.header.specs.Read.{answerIs}
-use Rattle.ieee.specs.Whole.{plusZero}
-use Rattle.trellis.proofs.NearExact.{claims}
-use Rattle.trellis.specs.Demand.{Claims}
-use Rattle.util.specs.Refusal.{accepted}
 use Rattle.header.proofs.read_header.Statement.{statement}
 use Rattle.header.proofs.read_header.Tie as tie
 
@@ -32,28 +26,16 @@ returns-2 c =
     let right = sym (c .before .room .ensures) ∙ not-true _ (c .if2 .taken) in
     (simp (named, right), (refl, (refl, (refl, (refl, (λ a e. let z : _≡_ {A = ℕ} 0 1 = cc in absurd (omega arith)))))))
 
-some-out-requires : tie.Need-some-out-requires
-some-out-requires c κs = search needs
+array-share-prefix-none : tie.Need-array-share-prefix-none
+array-share-prefix-none c = omega arith
 
-returns-3 : tie.Need-returns-3
-returns-3 c =
-    let tested = c .before .before in
-    let named = sym (tested .before .before .before .is-named .ensures) ∙ not-false _ (tested .before .before .if1 .left) in
-    let right = sym (tested .before .room .ensures) ∙ not-false _ (tested .if2 .left) in
-    let out = sym (c .before .some-out .ensures) ∙ c .if3 .taken in
-    (simp (named, right, out), (refl, (refl, (refl, (refl, (λ a e. let z : _≡_ {A = ℕ} 0 1 = cc in absurd (omega arith)))))))
+slice-aggregate-read : tie.Need-slice-aggregate-read
+slice-aggregate-read c = refl
 
-searched-requires : tie.Need-searched-requires
-searched-requires c κs =
-    let tested = c .before .before .before .before .before .before in
-    let a = tested .before .before .before .before .before .before .before .before .before .args in
-    let right = sym (tested .before .room .ensures) ∙ not-false _ (tested .if2 .left) in (
-      terms-right (a .kind) _ (a .scores .now) (a .next .now) (a .start .now) (a .decisions .now) right,
-      room-right (a .kind) _ (a .scores .now) (a .next .now) (a .start .now) (a .decisions .now) right,
-    )
-
-cleared-requires : tie.Need-cleared-requires
-cleared-requires c κs = search needs
+read-requires : tie.Need-read-requires
+read-requires c κs =
+    let tested = c .before .before .before .before .before in
+    (sym (tested .before .room .ensures) ∙ not-false _ (tested .if2 .left), (λ r h. absurd (not-suc-le-zero h)))
 
 same-length : tie.Need-same-length
 same-length c = search needs
@@ -67,41 +49,16 @@ same-length-3 c = search needs
 same-length-4 : tie.Need-same-length-4
 same-length-4 c = search needs
 
-returns-4 : tie.Need-returns-4
-returns-4 c =
-    -- the places after the areas were cleared, after the search, and after the third test
-    let last = c .before .before .before .before .before .before .before .before in
-    let searched = last .before .before .before .before .before .before .before .before .before .before .before .before .before in
-    let tested = searched .before .before .before .before .before in
-    let a = tested .before .before .before .before .before .before .before .before .before .before .before .args in
-    let named = sym (tested .before .before .before .before .before .is-named .ensures) ∙ not-false _ (tested .before .before .before .before .if1 .left) in
-    let right = sym (tested .before .before .before .room .ensures) ∙ not-false _ (tested .before .before .if2 .left) in
-    let in-range = sym (tested .before .some-out .ensures) ∙ tested .if3 .left in
-    let before = room-right (a .kind) _ (a .scores .now) (a .next .now) (a .start .now) (a .decisions .now) right in
-    let length-right = terms-right (a .kind) _ (a .scores .now) (a .next .now) (a .start .now) (a .decisions .now) right in
-    let found = searched .searched in
-    let after = found .ensures .1 in
-    let cleared = last .cleared .ensures in (
-      simp (named, right, in-range) (ap accepted (found .ensures .0)),
-      (
-        cleared .0 ∙ ap (λ (n : ℕ). replicate n plusZero) (after .of-scores ∙ sym (before .of-scores)),
-        (
-          cleared .1 .0 ∙ ap (λ (n : ℕ). replicate n plusZero) (after .of-next ∙ sym (before .of-next)),
-          (
-            cleared .1 .1 .0 ∙ ap (λ (n : ℕ). replicate n plusZero) (after .of-start ∙ sym (before .of-start)),
-            (
-              cleared .1 .1 .1 ∙ ap (λ (n : ℕ). replicate n 0) (after .of-decisions ∙ sym (before .of-decisions)),
-              (λ b e. let same : found .result ≡ b = cc in
-                  subst (Claims (a .mode) (a .kind) (a .terms .now)) (sym (found .ensures .0) ∙ ap answerIs same)
-                  (claims (a .mode) (a .kind) (a .terms .now) (omega (arith, length-right)) in-range)),
-            ),
-          ),
-        ),
-      ),
-    )
+returns-3 : tie.Need-returns-3
+returns-3 c =
+    -- the places after the read and after the second test
+    let read = c .before .before .before .before .before .before .before .before in
+    let tested = read .before .before .before .before .before .before in
+    let named = sym (tested .before .before .before .is-named .ensures) ∙ not-false _ (tested .before .before .if1 .left) in
+    let right = sym (tested .before .room .ensures) ∙ not-false _ (tested .if2 .left) in
+    (simp (named, right) (read .read .ensures .0), read .read .ensures .1)
 
 pub read-header-spec : {M : Type 1} → statement M
 read-header-spec =
     tie.close
-    (tie.spec is-named-requires returns room-requires returns-2 some-out-requires returns-3 searched-requires cleared-requires same-length same-length-2
-    same-length-3 same-length-4 returns-4)
+    (tie.spec is-named-requires returns room-requires returns-2 array-share-prefix-none slice-aggregate-read read-requires same-length same-length-2 same-length-3 same-length-4 returns-3)

@@ -22,7 +22,7 @@ abbrev found : tie.After-outcome-of → tie.After-search
 found c = c .before .before .before .before .before .before .before .before .before
 
 abbrev entry : tie.After-header-symbols → tie.Start
-entry c = c .before .before .before .before .before .before .before .before .before
+entry c = c .before .before .before .before .before .before .before .before .before .before
 
 -- ----
 
@@ -30,7 +30,7 @@ slice-aggregate-rows : tie.Need-slice-aggregate-rows
 slice-aggregate-rows c = refl
 
 rows-requires : tie.Need-rows-requires
-rows-requires c κs = (c .before .before .before .before .before .before .pre .0, refl)
+rows-requires c κs = (c .before .before .before .before .before .before .before .pre .0, refl)
 
 header-symbols-requires : tie.Need-header-symbols-requires
 header-symbols-requires c κs = search needs
@@ -64,7 +64,7 @@ lent-there c =
     part-lent (a .mode) (a .kind) (a .terms .now) (rows .last .1 .1 .1 .0) (rows .ensures .0) (rows .ensures .1) (n .result) (n .ensures) (at .pre .1)
 
 search-requires : tie.Need-search-requires
-search-requires c κs = lent-there c
+search-requires c κs = (lent-there c, entry (counted c) .pre .2)
 
 outcome-of-requires : tie.Need-outcome-of-requires
 outcome-of-requires c κs = search needs

@@ -10,11 +10,11 @@ use Rattle.pass.proofs.pass.Statement.{statement}
 use Rattle.pass.proofs.pass.Tie as tie
 
 abbrev Inv-loop : tie.InvT-loop
-Inv-loop metrics scores₀ next₀ start decisions₀ steps j₀ scores next decisions j =
+Inv-loop metrics labels scores₀ next₀ start decisions₀ steps j₀ scores next decisions j =
     (steps ≡ stepsIn metrics) × (j ≤ steps) × (j % 2 ≡ 0) × Turned metrics (table start) j scores next decisions
 
 abbrev μ-loop : tie.MeasureT-loop
-μ-loop metrics scores₀ next₀ start decisions₀ steps j₀ scores next decisions j = steps - j
+μ-loop metrics labels scores₀ next₀ start decisions₀ steps j₀ scores next decisions j = steps - j
 
 -- ---- back from a place to the first step of its turn, to the loop's head, and to the entry
 abbrev half : tie.After-step2 Inv-loop μ-loop → tie.After-step Inv-loop μ-loop
@@ -24,7 +24,7 @@ abbrev head : tie.After-step Inv-loop μ-loop → tie.At-loop Inv-loop μ-loop
 head c = c .before .before .before .before .before
 
 abbrev begun : tie.After-opening Inv-loop μ-loop → tie.Start Inv-loop μ-loop
-begun c = c .before .before .before .before .before .before .before .before .before
+begun c = c .before .before .before .before .before .before .before .before .before .before
 
 abbrev entry : tie.At-loop Inv-loop μ-loop → tie.Start Inv-loop μ-loop
 entry c = begun (c .before .before .before .before .before .before .before)
@@ -37,7 +37,7 @@ opening-requires c κs = search needs
 loop-holds : tie.Need-loop-holds Inv-loop μ-loop
 loop-holds c =
     let opened = c .before .before .before .before .before .before in
-    let lent = begun opened .pre .0 in
+    let lent = begun opened .pre .0 .0 in
     (refl, omega (arith, lent .some, lent .even), refl, opened .opening .ensures)
 
 step-requires : tie.Need-step-requires Inv-loop μ-loop
@@ -51,13 +51,13 @@ step-requires-2 c κs =
     let one = c .before .before .before .before .before .before .before in
     let at = head one in
     let turned = at .loop .inv .3 in
-    let lent = entry at .pre .0 in
-    (lent, (one .step .ensures .size, omega (arith, lent .even), turned .ran .held .size, one .step .ensures .room ∙ turned .room))
+    let lent = entry at .pre .0 .0 in
+    (entry at .pre .0, (one .step .ensures .size, omega (arith, lent .even), turned .ran .held .size, one .step .ensures .room ∙ turned .room))
 
 add-j : tie.Need-add-j Inv-loop μ-loop
 add-j c =
     let at = head (half (c .before .before .before .before)) in
-    record { fits = omega (arith, at .loop .inv .0, at .loop .inv .1, entry at .pre .0 .few) }
+    record { fits = omega (arith, at .loop .inv .0, at .loop .inv .1, entry at .pre .0 .0 .few) }
 
 loop-less : tie.Need-loop-less Inv-loop μ-loop
 loop-less c = search needs
@@ -70,7 +70,7 @@ loop-again c =
     let a = entry at .args in
     let inv = at .loop .inv in (
       refl,
-      omega (arith, entry at .pre .0 .even),
+      omega (arith, entry at .pre .0 .0 .even),
       omega arith,
       turned (a .metrics .now) (table (a .start .now)) (at .loop .j) (inv .3 .room) (inv .3 .ran) (one .step .ensures) (two .step2 .ensures),
     )

@@ -16,18 +16,18 @@ use Rattle.pass.proofs.step.Statement.{statement}
 use Rattle.pass.proofs.step.Tie as tie
 
 abbrev Inv-loop : tie.InvT-loop
-Inv-loop scores metrics j next₀ decisions₀ w₀ next decisions w =
+Inv-loop scores metrics labels j next₀ decisions₀ w₀ next decisions w =
     (w ≤ 256) × (length next ≡ 16384) × (length decisions ≡ length decisions₀)
     × ((s : ℕ) → s < w * 64 → table next s ≡ step (over metrics) (table scores) j s)
     × ((v : ℕ) → v < w → (i : ℕ) → i < 64 → flag (getD decisions (j * 256 + v) 0) i ≡ upper (over metrics) (table scores) j (v * 64 + i))
     × ((i : ℕ) → i < j * 256 → getD decisions i 0 ≡ getD decisions₀ i 0)
 
 abbrev μ-loop : tie.MeasureT-loop
-μ-loop scores metrics j next₀ decisions₀ w₀ next decisions w = 256 - w
+μ-loop scores metrics labels j next₀ decisions₀ w₀ next decisions w = 256 - w
 
 loop-holds : tie.Need-loop-holds Inv-loop μ-loop
 loop-holds c =
-    let at = c .before .before .before .before in
+    let at = c .before .before .before .before .before in
     (omega arith, at .pre .1 .2, refl, (λ s h. absurd (not-suc-le-zero h)), (λ v h. absurd (not-suc-le-zero h)), (λ i h. refl))
 
 states-requires : tie.Need-states-requires Inv-loop μ-loop
@@ -54,7 +54,7 @@ loop-less c = search needs
 loop-again : tie.Need-loop-again Inv-loop μ-loop
 loop-again c =
     let at = c .before .before .before .before .before in
-    let a = at .before .before .before .before .before .args in
+    let a = at .before .before .before .before .before .before .args in
     let inv = at .loop .inv in
     let w = at .loop .w in
     let d = at .loop .decisions in
@@ -73,7 +73,7 @@ loop-again c =
     )
 
 same-length : tie.Need-same-length Inv-loop μ-loop
-same-length c = c .before .loop .inv .1 ∙ sym (c .before .before .before .before .before .before .pre .1 .2)
+same-length c = c .before .loop .inv .1 ∙ sym (c .before .before .before .before .before .before .before .pre .1 .2)
 
 same-length-2 : tie.Need-same-length-2 Inv-loop μ-loop
 same-length-2 c = c .before .loop .inv .2
@@ -81,7 +81,7 @@ same-length-2 c = c .before .loop .inv .2
 returns : tie.Need-returns Inv-loop μ-loop
 returns c =
     let inv = c .before .loop .inv in
-    let a = c .before .before .before .before .before .before .args in
+    let a = c .before .before .before .before .before .before .before .args in
     record {
       size = inv .1;
       room = inv .2;

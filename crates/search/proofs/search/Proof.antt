@@ -17,11 +17,11 @@ use Rattle.search.proofs.search.Statement.{statement}
 use Rattle.search.proofs.search.Tie as tie
 
 abbrev Inv-loop : tie.InvT-loop
-Inv-loop metrics scores₀ next₀ start₀ decisions₀ steps best₀ ceiling₀ pass₀ scores next start decisions best ceiling pass =
+Inv-loop metrics labels scores₀ next₀ start₀ decisions₀ steps best₀ ceiling₀ pass₀ scores next start decisions best ceiling pass =
     (steps ≡ stepsIn metrics) × (k : ℕ) × (pass ≡ suc k) × Begun metrics scores next start decisions best ceiling k
 
 abbrev μ-loop : tie.MeasureT-loop
-μ-loop metrics scores₀ next₀ start₀ decisions₀ steps best₀ ceiling₀ pass₀ scores next start decisions best ceiling pass = 3 - pass
+μ-loop metrics labels scores₀ next₀ start₀ decisions₀ steps best₀ ceiling₀ pass₀ scores next start decisions best ceiling pass = 3 - pass
 
 -- ---- back from a place to the pass that has run, to where it was about to begin, and to the entry
 abbrev ran : tie.After-ceiling-after Inv-loop μ-loop → tie.After-run Inv-loop μ-loop
@@ -33,8 +33,11 @@ unclosed c = c .before .before .before .before
 abbrev begun : tie.After-run Inv-loop μ-loop → tie.At-loop Inv-loop μ-loop
 begun c = c .before .before .before .before .before
 
+abbrev called : tie.At-loop Inv-loop μ-loop → tie.Start Inv-loop μ-loop
+called c = c .before .before .before .before .before .before .before .before .before .before .before
+
 abbrev entry : tie.After-run Inv-loop μ-loop → tie.Start Inv-loop μ-loop
-entry c = begun c .before .before .before .before .before .before .before .before .before .before
+entry c = called (begun c)
 
 -- the ceiling, that pass counted in
 low-is : (c : tie.After-ceiling-after Inv-loop μ-loop) → c .ceiling-after .result ≡ ceilingTo (over (entry (ran c) .args .metrics .now)) (begun (ran c) .loop .inv .1)
@@ -52,26 +55,26 @@ clear-requires c κs = search needs
 
 loop-holds : tie.Need-loop-holds Inv-loop μ-loop
 loop-holds c =
-    let at = c .before .before .before .before .before .before .before .before .before in
-    (refl, 0, refl, first (at .pre) (c .before .before .clear .ensures))
+    let at = c .before .before .before .before .before .before .before .before .before .before in
+    (refl, 0, refl, first (at .pre .0) (c .before .before .clear .ensures))
 
 run-requires : tie.Need-run-requires Inv-loop μ-loop
-run-requires c κs = c .before .before .before .before .loop .inv .3 .lent
+run-requires c κs = let at = c .before .before .before .before in (at .loop .inv .3 .lent, called at .pre .1)
 
 ceiling-after-requires : tie.Need-ceiling-after-requires Inv-loop μ-loop
 ceiling-after-requires c κs = search needs
 
 same-length : tie.Need-same-length Inv-loop μ-loop
-same-length c = let r = ran (c .before) in same-lengths (entry r .pre) (r .run .ensures .1) .of-scores
+same-length c = let r = ran (c .before) in same-lengths (entry r .pre .0) (r .run .ensures .1) .of-scores
 
 same-length-2 : tie.Need-same-length-2 Inv-loop μ-loop
-same-length-2 c = let r = ran (c .before) in same-lengths (entry r .pre) (r .run .ensures .1) .of-next
+same-length-2 c = let r = ran (c .before) in same-lengths (entry r .pre .0) (r .run .ensures .1) .of-next
 
 same-length-3 : tie.Need-same-length-3 Inv-loop μ-loop
-same-length-3 c = let r = ran (c .before) in same-lengths (entry r .pre) (r .run .ensures .1) .of-start
+same-length-3 c = let r = ran (c .before) in same-lengths (entry r .pre .0) (r .run .ensures .1) .of-start
 
 same-length-4 : tie.Need-same-length-4 Inv-loop μ-loop
-same-length-4 c = let r = ran (c .before) in same-lengths (entry r .pre) (r .run .ensures .1) .of-decisions
+same-length-4 c = let r = ran (c .before) in same-lengths (entry r .pre .0) (r .run .ensures .1) .of-decisions
 
 returns : tie.Need-returns Inv-loop μ-loop
 returns c =
@@ -94,22 +97,22 @@ best-or-last-requires c κs = search needs
 same-length-5 : tie.Need-same-length-5 Inv-loop μ-loop
 same-length-5 c =
     let r = ran (unclosed (c .before .before) .before) in
-    same-lengths (entry r .pre) (r .run .ensures .1) .of-scores
+    same-lengths (entry r .pre .0) (r .run .ensures .1) .of-scores
 
 same-length-6 : tie.Need-same-length-6 Inv-loop μ-loop
 same-length-6 c =
     let r = ran (unclosed (c .before .before) .before) in
-    same-lengths (entry r .pre) (r .run .ensures .1) .of-next
+    same-lengths (entry r .pre .0) (r .run .ensures .1) .of-next
 
 same-length-7 : tie.Need-same-length-7 Inv-loop μ-loop
 same-length-7 c =
     let r = ran (unclosed (c .before .before) .before) in
-    same-lengths (entry r .pre) (r .run .ensures .1) .of-start
+    same-lengths (entry r .pre .0) (r .run .ensures .1) .of-start
 
 same-length-8 : tie.Need-same-length-8 Inv-loop μ-loop
 same-length-8 c =
     let r = ran (unclosed (c .before .before) .before) in
-    same-lengths (entry r .pre) (r .run .ensures .1) .of-decisions
+    same-lengths (entry r .pre .0) (r .run .ensures .1) .of-decisions
 
 returns-2 : tie.Need-returns-2 Inv-loop μ-loop
 returns-2 c =

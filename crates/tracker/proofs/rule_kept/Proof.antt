@@ -10,7 +10,7 @@ use lib.Dec.{leb, eqb}
 use lib.IntN.{ℤ, pos}
 use lib.ListN.{getD}
 use Rattle.tracker.proofs.Further.{kept-is, kept-over}
-use Rattle.blocks.specs.Doubles.{every}
+use Rattle.util.specs.Every.{every}
 use Rattle.tracker.specs.Rule.{inWholeBlocks, countKept, driftKept, sumsKept, shiftKept}
 use Rattle.tracker.specs.Inside.{ruleWith}
 use Rattle.tracker.specs.declared.Tracker.{Tracker}

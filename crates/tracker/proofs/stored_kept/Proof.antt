@@ -7,8 +7,8 @@ use native.Mathlib.Omega.{arith}
 use borrow.Author.Needs.{needs}
 use lib.IntN.{pos}
 use lib.ListN.{getD}
-use Rattle.blocks.proofs.Further.{every-next}
-use Rattle.blocks.specs.Doubles.{every}
+use Rattle.util.proofs.Every.{every-next}
+use Rattle.util.specs.Every.{every}
 use Rattle.tracker.specs.Rule.{shiftKept}
 use mir.Facts.{toZ-ofZ}
 use mir.Syntax.{w32}

@@ -1,7 +1,7 @@
--- `header::outcome_of` meets its contract, by the cases of the way. Assumes nothing.
+-- `outcome::outcome_of` meets its contract, by the cases of the way. Assumes nothing.
 use borrow.Author.Needs.{needs}
-use Rattle.header.proofs.outcome_of.Statement.{statement}
-use Rattle.header.proofs.outcome_of.Tie as tie
+use Rattle.outcome.proofs.outcome_of.Statement.{statement}
+use Rattle.outcome.proofs.outcome_of.Tie as tie
 
 enum-known-how : tie.Need-enum-known-how
 enum-known-how c = search needs

@@ -1,12 +1,12 @@
--- Tests over the first n, one step further; and where a block lies in memory. Assumes nothing.
-use Prim.Native.Nat.{ℕ, zero, suc, _+_, _*_, _^_, _<_}
-use mathlib.Core.Bool.{Bool, true, false, true≢false, _&&_, and-false}
+-- A test of every place below n: one place further, and what it says of each. Assumes nothing.
+use Prim.Native.Nat.{ℕ, zero, suc, _+_, _<_}
+use mathlib.Core.Bool.{Bool, true, false, true≢false, _&&_, and-false, and-true}
 use mathlib.Core.Logic.{⊎-elim}
 use mathlib.Core.Path.{_≡_, refl, sym, ap, _∙_}
 use native.Mathlib.Nat.{not-suc-le-zero, eq-or-lt-of-le}
 use native.Mathlib.Numerals.{add-one}
 use native.Mathlib.Omega.{arith}
-use Rattle.blocks.specs.Doubles.{every}
+use Rattle.util.specs.Every.{every}
 
 pub every-next : (f : ℕ → Bool) (n : ℕ) → every (n + 1) f ≡ every n f && f n
 unfolding every
@@ -39,6 +39,14 @@ every-at f n j l e = by (f j) refl
     by true p = p
     by false p = absurd (true≢false (sym e ∙ every-false f n j l p))
 
--- the place of a block of 16 bytes fits, where the slice has room
-pub scaled : (i n : ℕ) → i < n → n * 16 < 2 ^ 63 → i * 16 < 2 ^ 64
-scaled i n l r = omega (arith, l, r)
+-- where it does not hold at every place, it fails at one
+pub every-fails : (f : ℕ → Bool) (n : ℕ) → every n f ≡ false → (i : ℕ) × (i < n) × (f i ≡ false)
+unfolding every
+every-fails f zero e = absurd (true≢false e)
+every-fails f (suc n) e = by (f n) refl (λ h. every-fails f n h)
+  where
+    by : (t : Bool) → f n ≡ t → (every n f ≡ false → (i : ℕ) × (i < n) × (f i ≡ false)) → (i : ℕ) × (i < suc n) × (f i ≡ false)
+    by false q rest = (n, omega arith, q)
+    by true q rest =
+        let below = rest (sym (and-true (every n f)) ∙ ap (λ (t : Bool). every n f && t) (sym q) ∙ e) in
+        (below .0, omega (arith, below .1), below .2)

@@ -1,9 +1,9 @@
--- `header::best` meets its contract, on either side of the ceiling. Assumes nothing.
+-- `outcome::best` meets its contract, on either side of the ceiling. Assumes nothing.
 use mathlib.Core.Path.{sym, _∙_}
 use borrow.Author.Needs.{needs}
 use Rattle.util.proofs.Choose.{chosen, not-chosen}
-use Rattle.header.proofs.best.Statement.{statement}
-use Rattle.header.proofs.best.Tie as tie
+use Rattle.outcome.proofs.best.Statement.{statement}
+use Rattle.outcome.proofs.best.Tie as tie
 
 stays-below-requires : tie.Need-stays-below-requires
 stays-below-requires c κs = search needs
