@@ -479,16 +479,28 @@ pub fn interleave_sym(symbols: &[u8], values: &mut [u8]) -> Result<(), Refusal> 
 /// assert_eq!(read_header(Mode::R0, Kind::Data, &[0.0; 64 * TERMS], &mut areas).unwrap().word, 0);
 /// ```
 pub fn read_header(mode: Mode, kind: Kind, terms: &[f32], areas: &mut Areas) -> Result<Header, Refusal> {
+    read(mode, kind, terms, None, areas)
+}
+
+/// With a lent table of labels, or by parity.
+fn read(mode: Mode, kind: Kind, terms: &[f32], labels: Option<&[u16]>, areas: &mut Areas) -> Result<Header, Refusal> {
     let Areas { scores, next, start, decisions } = areas;
     let decisions = &mut decisions[..kind.header() * DECISIONS];
     let (mut word, mut outcome, mut pass, mut score, mut ceiling) = (0, 0, 0, 0.0, 0.0);
     // SAFETY: every slice is told with its own length; they and the five places cannot overlap.
     Refusal::told(unsafe {
-        sys::ion_read_header(
-            mode as u8, kind as u8, terms.as_ptr(), terms.len(), scores.as_mut_ptr(), scores.len(), next.as_mut_ptr(), next.len(),
-            start.as_mut_ptr(), start.len(), decisions.as_mut_ptr(), decisions.len(), &mut word, &mut outcome, &mut pass, &mut score,
-            &mut ceiling,
-        )
+        match labels {
+            None => sys::ion_read_header(
+                mode as u8, kind as u8, terms.as_ptr(), terms.len(), scores.as_mut_ptr(), scores.len(), next.as_mut_ptr(), next.len(),
+                start.as_mut_ptr(), start.len(), decisions.as_mut_ptr(), decisions.len(), &mut word, &mut outcome, &mut pass, &mut score,
+                &mut ceiling,
+            ),
+            Some(labels) => sys::ion_read_header_with(
+                mode as u8, kind as u8, terms.as_ptr(), terms.len(), labels.as_ptr(), labels.len(), scores.as_mut_ptr(), scores.len(),
+                next.as_mut_ptr(), next.len(), start.as_mut_ptr(), start.len(), decisions.as_mut_ptr(), decisions.len(), &mut word,
+                &mut outcome, &mut pass, &mut score, &mut ceiling,
+            ),
+        }
     })?;
     Ok(Header { word, outcome: Outcome::named(outcome, pass, score), ceiling })
 }
@@ -542,8 +554,9 @@ impl From<Vec<u16>> for Labels {
 
 /// Reads a header as [`read_header`] does, with labels filled in advance, in less time.
 ///
-/// Proved: with a table that is not refused it answers what [`read_header`] answers for the same mode, kind and terms, `Err` included; all that
-/// is proved of a [`Header`] holds of this one, under the same conditions. A table with one entry off the parity rule is refused in every call.
+/// Proved: with a table that is not refused it answers what [`read_header`] answers for the same mode, kind and terms, `Err` included; so all
+/// that is proved of its answer holds of this one, under the same conditions. A table with one entry off the parity rule is refused in every
+/// call whose lengths are right.
 ///
 /// ```
 /// use ion_proved::{read_header, read_header_with, Areas, Kind, Labels, Mode, Refusal, TERMS};
@@ -565,18 +578,7 @@ impl From<Vec<u16>> for Labels {
 /// assert_eq!(read_header_with(Mode::R0, Kind::Cue, &terms, &labels, &mut areas), Err(Refusal::Term));
 /// ```
 pub fn read_header_with(mode: Mode, kind: Kind, terms: &[f32], labels: &Labels, areas: &mut Areas) -> Result<Header, Refusal> {
-    let (Areas { scores, next, start, decisions }, labels) = (areas, labels.as_slice());
-    let decisions = &mut decisions[..kind.header() * DECISIONS];
-    let (mut word, mut outcome, mut pass, mut score, mut ceiling) = (0, 0, 0, 0.0, 0.0);
-    // SAFETY: every slice is told with its own length; they and the five places cannot overlap.
-    Refusal::told(unsafe {
-        sys::ion_read_header_with(
-            mode as u8, kind as u8, terms.as_ptr(), terms.len(), labels.as_ptr(), labels.len(), scores.as_mut_ptr(), scores.len(),
-            next.as_mut_ptr(), next.len(), start.as_mut_ptr(), start.len(), decisions.as_mut_ptr(), decisions.len(), &mut word, &mut outcome,
-            &mut pass, &mut score, &mut ceiling,
-        )
-    })?;
-    Ok(Header { word, outcome: Outcome::named(outcome, pass, score), ceiling })
+    read(mode, kind, terms, Some(labels.as_slice()), areas)
 }
 
 /// What the shed computer is told of a burst: its header's word and outcome as read, with mode and kind, the sample at which the burst starts,

@@ -32,7 +32,7 @@ fn worked_out(first: usize) -> [u16; 64]
 }
 
 // Inside: the 64 labels from register `first` on, from the table where one is lent, else by parity. Every label that the search uses
-// comes from here.
+// comes from here or is one of these xor 31 (crate pass).
 pub fn row(table: &[u16], first: usize) -> [u16; 64]
     requires { ⌜ Lawful (now table) × (first + 64 ≤ 32768) ⌝ }
     ensures { λ row. ⌜ Row first row ⌝ }
