@@ -316,7 +316,7 @@ fn damaged_table(o: &Oracle, d: &mut Dice, _: u64, c: &mut Check) {
             // one entry by one bit, by any, to another entry's
             0 | 1 => labels.get_mut(at).into_iter().for_each(|x| *x ^= 1 << d.below(16)),
             2 => labels.get_mut(at).into_iter().for_each(|x| *x = d.word() as u16),
-            3 => labels.get_mut(at).into_iter().for_each(|x| *x = o.labels[at ^ 1 << d.below(15)]),
+            3 => labels.get_mut(at).into_iter().for_each(|x| *x = o.labels[(at ^ 1 << d.below(15)) % 32_768]),
             // a bit of some block, so that it goes on as it began
             4 => {
                 let (from, to) = (d.below(15), d.below(5));
