@@ -154,10 +154,11 @@ uint32_t ion_read_header(uint8_t mode, uint8_t kind, const float *terms, size_t 
  * Refused: 4 (labels_len is not 32,768). */
 uint32_t ion_fill_labels(uint16_t *labels, size_t labels_len);
 
-/* Reads a header with labels filled in advance: in less time, and else as ion_read_header does. Every call tests the whole table: one that
- * was made elsewhere is as good as a filled one, and one entry off is found out.
- * Proved: with a table that is not refused the number, the answer and the areas are those of ion_read_header for the same mode, kind, terms
- * and areas, and all that is proved of its answers holds of these, under the same conditions.
+/* Reads a header with labels filled in advance: as ion_read_header does, in less time (docs/MEASUREMENTS.md). Every call whose mode, kind and
+ * lengths are right tests the whole table, so one that was made elsewhere is as good as a filled one.
+ * Proved: with a table of 32,768 entries that are all labels the number, the answer and the areas are those of ion_read_header for the same
+ * mode, kind, terms and areas, and all that is proved of its answers holds of these, under the same conditions. 16 is returned exactly where
+ * mode, kind and lengths are right and an entry is off.
  * Refused: 1, 4 (one of the six lengths), 16 (an entry of the table is not the label of its register), 6 (a term not finite or beyond
  * +-1,000,000). */
 uint32_t ion_read_header_with(uint8_t mode, uint8_t kind, const float *terms, size_t terms_len, const uint16_t *labels, size_t labels_len,

@@ -523,7 +523,7 @@ pub fn fill_labels(table: &mut [u16]) -> Result<(), Refusal> {
 /// The labels of all registers, filled in advance for [`read_header_with`]. One table serves every mode, kind and layout, and any number of
 /// threads at once.
 ///
-/// A table may be made elsewhere (`Labels::from`): it is not looked at then, since every read tests all of it.
+/// A table may be made elsewhere (`Labels::from`): it is not looked at then, since every read whose lengths are right tests all of it.
 #[derive(Clone, Debug, PartialEq, Eq)]
 pub struct Labels(Vec<u16>);
 
@@ -552,10 +552,10 @@ impl From<Vec<u16>> for Labels {
     }
 }
 
-/// Reads a header as [`read_header`] does, with labels filled in advance, in less time.
+/// Reads a header as [`read_header`] does, with labels filled in advance, in less time (docs/MEASUREMENTS.md).
 ///
-/// Proved: with a table that is not refused it answers what [`read_header`] answers for the same mode, kind and terms, `Err` included; so all
-/// that is proved of its answer holds of this one, under the same conditions. A table with one entry off the parity rule is refused in every
+/// Proved: with [`REGISTERS`] entries that are all labels it answers what [`read_header`] answers for the same mode, kind and terms, `Err`
+/// included; so all that is proved of its answer holds of this one, under the same conditions. A table with one entry off the parity rule is refused in every
 /// call whose lengths are right.
 ///
 /// ```
