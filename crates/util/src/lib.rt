@@ -1,5 +1,7 @@
 // Numbers of the air format (phy_mfsk/util.rs): SplitMix64, the Gray code, the CRC and the
 // interleaver's multiplier, which is a public entry. Their definitions are in specs/.
+#![tactic(auto)]
+
 ghost use Rattle.std.specs.Prelude.{◌≡◌, ◌-◌, ◌*◌, ◌%◌, ◌^◌, ◌≤◌, ◌&&◌};
 ghost use Rattle.util.specs.SplitMix.{first_output};
 ghost use Rattle.util.specs.Gray.{gray_of};

@@ -1,0 +1,39 @@
+-- `util::around` meets its contract. The invariant: the first that suits from the pair of d on is the first that suits at all.
+-- The measure is what is left of the n pairs. Assumes nothing.
+use Rattle.std.proofs.Common.{◌≡◌, ◌+◌, ◌-◌, ◌≤◌, sym, ap, ◌∙◌, arith, rules}
+use Rattle.util.specs.Multiplier.{pairs, suits, first_of}
+use Rattle.util.proofs.Tries.{left, from_one, none_left, upper, lower, both-fail}
+use Rattle.util.proofs.around.Goals as goal
+
+pub returns-then-suitable : goal.returns-then-suitable
+returns-then-suitable c =
+    let at = c in
+    upper (suits at.args.n) at.args.n at.args.s at.loop-d.d (omega arith)
+    (sym c.suitable.ensures ∙ c.if-suitable.true)
+    ∙ at.loop-d.invariant.1
+
+pub returns-then-suitable-2 : goal.returns-then-suitable-2
+returns-then-suitable-2 c =
+    let at = c in
+    let less = c.saturating_sub-below.ensures in
+    less
+    ∙ lower (suits at.args.n) at.args.n at.args.s at.loop-d.d (omega arith)
+    (sym c.suitable.ensures ∙ c.if-suitable.false)
+    (sym (ap (suits at.args.n) less) ∙ sym c.suitable-in-loop-d.ensures ∙ c.if-suitable-2.true)
+    ∙ at.loop-d.invariant.1
+
+pub loop-d-preserved : goal.loop-d-preserved
+loop-d-preserved c =
+    let at = c in
+    let less = c.saturating_sub-below.ensures in (
+      omega arith,
+      sym (both-fail (suits at.args.n) at.args.n at.args.s at.loop-d.d (omega arith)
+          (sym c.suitable.ensures ∙ c.if-suitable.false)
+          (sym (ap (suits at.args.n) less) ∙ sym c.suitable-in-loop-d.ensures ∙ c.if-suitable-2.false))
+          ∙ at.loop-d.invariant.1,
+    )
+
+pub returns : goal.returns
+returns c =
+    let at = c in
+    sym (none_left (suits at.args.n) at.args.n at.args.s at.loop-d.d (omega arith)) ∙ at.loop-d.invariant.1
