@@ -1,5 +1,7 @@
 // The air order (phy_mfsk/frame.rs): the formats of the two modes, hops, bins and places, header slots, and the CRC by
 // mode, kind and layout, which is a public entry. Definitions in specs/.
+#![tactic(auto)]
+
 ghost use Rattle.std.specs.Prelude.{◌≡◌, ◌≤◌, ◌<◌, [], ◌∷◌};
 ghost use Rattle.frame.specs.Format.{r0, r1, format_of, header_bits, named, layout_named, listed};
 ghost use Rattle.frame.specs.Air.{hop_of, bin_of, place_of, slot_of};

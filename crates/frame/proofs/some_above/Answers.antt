@@ -1,0 +1,26 @@
+-- `frame::some_above` meets its contract. The invariant: what is left has a byte above the limit exactly where the
+-- whole has one. The measure is what is left of the length. Assumes nothing.
+use Prim.Native.Nat.{◌-◌, ◌≤◌}
+use mathlib.Core.Path.{◌≡◌, refl}
+use native.Mathlib.Omega.{arith}
+use borrow.Author.Tests.{lt-ltb, le-ltb}
+use lib.Dec.{ltb}
+use lib.ListN.{length, drop}
+use Rattle.util.specs.Some.{some_of}
+use Rattle.util.proofs.Some.{some-here, not-here, none_left}
+use Rattle.frame.proofs.some_above.Goals as goal
+
+pub returns-then-bytes-i : goal.returns-then-bytes-i
+returns-then-bytes-i c =
+    let at = c in
+    some-here (ltb at.args.limit) at.args.bytes.now at.loop-i.i at.loop-i.invariant.1 0 (omega arith) (lt-ltb _ _ c.if-bytes-i.true)
+
+pub loop-i-preserved : goal.loop-i-preserved
+loop-i-preserved c =
+    let at = c in
+    (omega arith, not-here (ltb at.args.limit) at.args.bytes.now at.loop-i.i at.loop-i.invariant.1 0 (omega arith) (le-ltb _ _ c.if-bytes-i.false))
+
+pub returns : goal.returns
+returns c =
+    let at = c in
+    none_left (ltb at.args.limit) at.args.bytes.now at.loop-i.i at.loop-i.invariant.1 (omega arith)
