@@ -10,9 +10,5 @@ use Rattle.frame.specs.Format.{named, layout_named}
 use Rattle.frame.proofs.Named.{kind-named}
 use Rattle.frame.proofs.crc.Goals as goal
 
--- past the first test mode and kind are named, past the second the layout is
-known : (c : goal.Else-not-is_named) → named c.args.mode c.args.kind ≡ true
-known c = sym c.is_named.ensures ∙ not-false _ c.if-not-is_named.false
-
 pub crc_init-requires : goal.crc_init-requires
-crc_init-requires c = kind-named _ _ (known c)
+crc_init-requires c = kind-named _ _ (sym c.is_named.ensures ∙ c.if-not-is_named.false)
