@@ -1,5 +1,7 @@
 // The header's code (fec/conv.rs, phy_mfsk/conv.rs): labels by parity, the tail-biting encoder, and
 // the header sent, which is a public entry. Definitions in specs/.
+#![tactic(auto)]
+
 ghost use Rattle.std.specs.Prelude.{◌≡◌, false, ◌≤◌, ◌<◌, length};
 ghost use Rattle.frame.specs.Format.{header_bits};
 ghost use Rattle.frame.specs.Crc.{some_above_one};

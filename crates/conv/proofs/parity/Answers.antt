@@ -2,12 +2,8 @@
 use mathlib.Core.Path.{refl}
 use native.Mathlib.Omega.{arith}
 use Rattle.conv.specs.Label.{parity_of}
-use Rattle.conv.proofs.parity.Statement.{statement}
-use Rattle.conv.proofs.parity.Tie as tie
+use Rattle.conv.proofs.parity.Goals as goal
 
-returns : tie.Need-returns
+pub returns : goal.returns
 unfolding parity_of
 returns c = (refl, omega arith)
-
-pub parity-spec : {M : Type 1} → statement M
-parity-spec = tie.close (tie.spec returns)

@@ -1,0 +1,29 @@
+-- `model::some_out` meets its contract. The invariant: what is left has a term out of range exactly where the whole has one.
+-- The measure is what is left of the length. Assumes nothing.
+use Prim.Native.Nat.{◌-◌, ◌≤◌}
+use mathlib.Core.Path.{◌≡◌, refl, sym, ◌∙◌}
+use native.Mathlib.Omega.{arith}
+use borrow.Author.Rules.{rules}
+use lib.Ieee.{nan}
+use lib.ListN.{length, drop}
+use Rattle.model.specs.Range.{out_of_range}
+use Rattle.util.proofs.Some.{some-here, not-here, none_left}
+use Rattle.util.specs.Some.{some_of}
+use Rattle.model.proofs.some_out.Goals as goal
+
+pub returns-then-out_of_range : goal.returns-then-out_of_range
+returns-then-out_of_range c =
+    let at = c in
+    some-here out_of_range at.args.terms.now at.loop-i.i at.loop-i.invariant.1 nan (omega arith)
+    (sym c.out_of_range.ensures ∙ c.if-out_of_range.true)
+
+pub loop-i-preserved : goal.loop-i-preserved
+loop-i-preserved c =
+    let at = c in
+    let out = sym c.out_of_range.ensures ∙ c.if-out_of_range.false in
+    (omega arith, not-here out_of_range at.args.terms.now at.loop-i.i at.loop-i.invariant.1 nan (omega arith) out)
+
+pub returns : goal.returns
+returns c =
+    let at = c in
+    none_left out_of_range at.args.terms.now at.loop-i.i at.loop-i.invariant.1 (omega arith)
