@@ -1,6 +1,8 @@
 // The labels of all registers in a lent table (document 02, #111): filled once, which is a public entry, tested in every read that is lent
 // it, and read in the search. Labels are linear: a bit more in a register makes its label another by that bit's own, so a table goes on from
 // each power of two as it began. Definitions in specs/.
+#![tactic(auto)]
+
 ghost use Rattle.std.specs.Prelude.{◌≡◌, ◌+◌, ◌≤◌, ◌<◌, length};
 ghost use Rattle.util.specs.Every.{every};
 ghost use Rattle.conv.specs.Label.{label_of};

@@ -1,0 +1,39 @@
+-- `labels::all_kept` meets its contract. The invariant: kept says whether the entries below `half`, a power of two, keep to the rule. The
+-- measure is what is left of them. Assumes nothing.
+use Prim.Native.Nat.{ℕ, suc, ◌+◌, ◌*◌, ◌-◌}
+use mathlib.Core.Path.{◌≡◌, ap, ◌∙◌}
+use native.Mathlib.Omega.{arith}
+use borrow.Author.Rules.{rules}
+use Rattle.util.specs.Every.{every}
+use Rattle.conv.proofs.Linear.{label-lt}
+use Rattle.labels.specs.Labels.{keeps_at, labelled}
+use Rattle.labels.proofs.Kept.{Power, power-one, power-next, power-half, power-whole, power_pos, adds, first-kept}
+use Rattle.labels.proofs.all_kept.Goals as goal
+
+pub loop-half-init : goal.loop-half-init
+loop-half-init c = (0, power-one, first-kept c.args.table.now)
+
+pub overflow_cast-label : goal.overflow_cast-label
+overflow_cast-label c = omega (arith, c.label.ensures, label-lt c.loop-half.half)
+
+pub upper_kept-kept-requires : goal.upper_kept-kept-requires
+upper_kept-kept-requires c =
+    let at = c in
+    let power = at.loop-half.invariant.1 in
+    (at.requires, power-half power c.loop-half-test.true, adds power c.label.ensures, at.loop-half.invariant.2)
+
+pub loop-half-preserved : goal.loop-half-preserved
+loop-half-preserved c =
+    let at = c in
+    let twice : at.loop-half.half + at.loop-half.half ≡ at.loop-half.half * 2 = omega arith in (
+      suc at.loop-half.invariant.0,
+      power-next at.loop-half.invariant.1 c.loop-half-test.true,
+      c.upper_kept-kept.ensures ∙ ap (λ (n : ℕ). every n (keeps_at at.args.table.now)) twice,
+    )
+
+pub returns : goal.returns
+unfolding labelled
+returns c =
+    let at = c in
+    let all : at.loop-half.half ≡ 32768 = power-whole at.loop-half.invariant.1 (omega arith) in
+    at.loop-half.invariant.2 ∙ ap (λ (n : ℕ). every n (keeps_at at.args.table.now)) all

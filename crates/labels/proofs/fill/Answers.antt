@@ -1,0 +1,32 @@
+-- `labels::fill` meets its contract. The invariant: the entries below `half`, a power of two, are labels. The measure is what is left of
+-- them. Assumes nothing.
+use Prim.Native.Nat.{ℕ, suc, ◌-◌}
+use mathlib.Core.Path.{◌≡◌, sym, ◌∙◌}
+use native.Mathlib.Omega.{arith}
+use borrow.Author.Rules.{rules}
+use lib.ListN.{length, length-set}
+use Rattle.conv.proofs.Linear.{label-lt}
+use Rattle.labels.specs.Labels.{Labels}
+use Rattle.labels.proofs.Kept.{Power, power-one, power-next, power-half, power-whole, power_pos, adds, first-filled}
+use Rattle.labels.proofs.fill.Goals as goal
+
+pub loop-half-init : goal.loop-half-init
+loop-half-init c =
+    let table = c.args.table.now in
+    let size : length table ≡ 32768 = c.requires in
+    (0, power-one, length-set table 0 0 ∙ size, first-filled table (omega arith))
+
+pub overflow_cast-label : goal.overflow_cast-label
+overflow_cast-label c = omega (arith, c.label.ensures, label-lt c.loop-half.half)
+
+pub fill_upper-requires : goal.fill_upper-requires
+fill_upper-requires c =
+    let at = c in
+    let inv = at.loop-half.invariant in
+    (inv.2, power-half inv.1 c.loop-half-test.true, adds inv.1 c.label.ensures, inv.3)
+
+pub loop-half-preserved : goal.loop-half-preserved
+loop-half-preserved c =
+    let at = c in
+    let new = c.fill_upper.ensures in
+    (suc at.loop-half.invariant.0, power-next at.loop-half.invariant.1 c.loop-half-test.true, new.0, (λ r h. new.1 r (omega arith)))

@@ -1,0 +1,16 @@
+-- `labels::upper_kept` meets its contract. The invariant: kept says whether the entries below `half` + i keep to the rule. The
+-- measure is what is left of them. Assumes nothing.
+use Prim.Native.Nat.{ℕ, ◌+◌, ◌-◌, ◌≤◌}
+use mathlib.Core.Path.{◌≡◌, ap, ◌∙◌}
+use native.Mathlib.Omega.{arith}
+use borrow.Author.Rules.{rules}
+use Rattle.util.specs.Every.{every}
+use Rattle.labels.specs.Labels.{keeps_at}
+use Rattle.labels.proofs.Kept.{kept-further}
+use Rattle.labels.proofs.upper_kept.Goals as goal
+
+pub loop-i-preserved : goal.loop-i-preserved
+loop-i-preserved c =
+    let at = c in
+    let a = at.args in
+    (omega arith, c.both-kept.ensures ∙ kept-further a.table.now a.half a.by at.loop-i.i at.requires.2 (omega arith) at.loop-i.invariant.1)
