@@ -1,6 +1,8 @@
 // One pass of the header's Viterbi search over a tail-biting code, which is wrapped around at most three times (crate
 // search): a step, a pass, its end state and its top over lent areas (fec/conv.rs: `pass`). Labels come from a lent table, or by
 // parity where none is lent (crate labels). What the areas hold is document 01's search, as crate trellis defines it, at f32.
+#![tactic(auto)]
+
 ghost use Rattle.std.specs.Prelude.{◌≡◌, ◌*◌, ◌<◌, ◌≤◌, length};
 ghost use Rattle.std.specs.Float.Ieee.{lt};
 ghost use Rattle.util.specs.Choose.{choose};

@@ -1,5 +1,7 @@
 // The 32 metrics of each step of a header, from its terms: those of the step's slot, one row after another. Definitions in
 // specs/ and in crate trellis.
+#![tactic(auto)]
+
 ghost use Rattle.std.specs.Prelude.{◌≡◌, ◌+◌, ◌*◌, ◌<◌, length, get_or};
 ghost use Rattle.std.specs.Float.{nan};
 ghost use Rattle.util.specs.Table.{Stored};

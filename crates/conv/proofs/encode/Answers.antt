@@ -38,57 +38,46 @@ after_next bits n j = ap (after bits n) (add-one j)
 pub loop-j-init : goal.loop-j-init
 unfolding after encoder.state placed
 loop-j-init c =
-    let begin = c in
-    (omega arith, c.start-state.ensures ∙ ap (λ (n : ℕ). encoder.made (bits_of begin.args.bits.now) n 14) begin.requires.0, refl)
+    (omega arith, c.start-state.ensures ∙ ap (λ (n : ℕ). encoder.made (bits_of c.args.bits.now) n 14) c.requires.0, refl)
 
 pub overflow_mul-register : goal.overflow_mul-register
 overflow_mul-register c =
-    let at = c in
-    let begin = at in
-    omega (arith, at.loop-j.invariant.1, after-below begin.args.bits.now (header_bits begin.args.kind) at.loop-j.j begin.requires.2)
+    omega (arith, c.loop-j.invariant.1, after-below c.args.bits.now (header_bits c.args.kind) c.loop-j.j c.requires.2)
 
 pub overflow_add-register : goal.overflow_add-register
 overflow_add-register c =
-    let at = c in
-    let begin = at in
-    let bits = begin.args.bits.now in
-    let below = after-below bits (header_bits begin.args.kind) at.loop-j.j begin.requires.2 in
-    omega (arith, at.loop-j.invariant.1, below, bits_below bits begin.requires.2 at.loop-j.j)
+    let bits = c.args.bits.now in
+    let below = after-below bits (header_bits c.args.kind) c.loop-j.j c.requires.2 in
+    omega (arith, c.loop-j.invariant.1, below, bits_below bits c.requires.2 c.loop-j.j)
 
 pub overflow_cast-values : goal.overflow_cast-values
 overflow_cast-values c = omega (arith, small _ _ c.label.ensures)
 
 pub bounds-values-slot : goal.bounds-values-slot
 bounds-values-slot c =
-    let at = c in
-    let begin = at in
-    let n = header_bits begin.args.kind in
-    let bits = begin.args.bits.now in
-    let long : length at.loop-j.values ≡ n = placed-long n (step_label (bits_of bits) n) _ _ _ at.loop-j.invariant.2 ∙ begin.requires.1 in
-    omega (arith, c.header_slot-slot.ensures, slot-within n at.loop-j.j (omega (arith, begin.requires.0)))
+    let n = header_bits c.args.kind in
+    let bits = c.args.bits.now in
+    let long : length c.loop-j.values ≡ n = placed-long n (step_label (bits_of bits) n) _ _ _ c.loop-j.invariant.2 ∙ c.requires.1 in
+    omega (arith, c.header_slot-slot.ensures, slot-within n c.loop-j.j (omega (arith, c.requires.0)))
 
 pub loop-j-preserved : goal.loop-j-preserved
 unfolding after step_label
 loop-j-preserved c =
-    let at = c in
-    let begin = at in
-    let n = header_bits begin.args.kind in
-    let bits = begin.args.bits.now in
-    let was = begin.args.values.now in
-    let j = at.loop-j.j in
+    let n = header_bits c.args.kind in
+    let bits = c.args.bits.now in
+    let was = c.args.values.now in
+    let j = c.loop-j.j in
     let step : c.label.result ≡ step_label (bits_of bits) n j =
-    c.label.ensures ∙ ap (λ (p : ℕ). label_of (encoder.register p (bits_of bits j))) at.loop-j.invariant.1 in (
-      omega (arith, begin.requires.0),
-      ap (λ (p : ℕ). encoder.register p (bits_of bits j) % 16384) at.loop-j.invariant.1 ∙ sym (after_next bits n j),
-      placed-step n (step_label (bits_of bits) n) was _ j _ _ at.loop-j.invariant.2 c.header_slot-slot.ensures step,
+    c.label.ensures ∙ ap (λ (p : ℕ). label_of (encoder.register p (bits_of bits j))) c.loop-j.invariant.1 in (
+      omega (arith, c.requires.0),
+      ap (λ (p : ℕ). encoder.register p (bits_of bits j) % 16384) c.loop-j.invariant.1 ∙ sym (after_next bits n j),
+      placed-step n (step_label (bits_of bits) n) was _ j _ _ c.loop-j.invariant.2 c.header_slot-slot.ensures step,
     )
 
 pub returns : goal.returns
 returns c =
-    let at = c in
-    let begin = at in
-    let n = header_bits begin.args.kind in
-    let bits = begin.args.bits.now in
-    let end : at.loop-j.j ≡ n = omega (arith, begin.requires.0) in
-    at.loop-j.invariant.2 ∙ ap (λ (m : ℕ). placed n (step_label (bits_of bits) n) m begin.args.values.now) end
-    ∙ labels-over n (bits_of bits) begin.args.values.now begin.requires.1
+    let n = header_bits c.args.kind in
+    let bits = c.args.bits.now in
+    let end : c.loop-j.j ≡ n = omega (arith, c.requires.0) in
+    c.loop-j.invariant.2 ∙ ap (λ (m : ℕ). placed n (step_label (bits_of bits) n) m c.args.values.now) end
+    ∙ labels-over n (bits_of bits) c.args.values.now c.requires.1

@@ -35,18 +35,15 @@ loop-i-init c =
 
 pub overflow_mul-state : goal.overflow_mul-state
 overflow_mul-state c =
-    let at = c in
-    omega (arith, small at.args.bits.now at.loop-i.i at.requires.1 at.loop-i.invariant.1)
+    omega (arith, small c.args.bits.now c.loop-i.i c.requires.1 c.loop-i.invariant.1)
 
 pub overflow_add-state : goal.overflow_add-state
 overflow_add-state c =
-    let at = c in
-    let bits = at.args.bits.now in
-    omega (arith, small bits at.loop-i.i at.requires.1 at.loop-i.invariant.1, bits_below bits at.requires.1 at.loop-i.i)
+    let bits = c.args.bits.now in
+    omega (arith, small bits c.loop-i.i c.requires.1 c.loop-i.invariant.1, bits_below bits c.requires.1 c.loop-i.i)
 
 pub loop-i-preserved : goal.loop-i-preserved
 loop-i-preserved c =
-    let at = c in
-    let bits = at.args.bits.now in
-    let next = made-next (bits_of bits) at.loop-i.i (length bits - 14) at.loop-i.invariant.0 in
-    (omega arith, omega arith, ap (λ (p : ℕ). register p (bits_of bits at.loop-i.i)) at.loop-i.invariant.2 ∙ sym next)
+    let bits = c.args.bits.now in
+    let next = made-next (bits_of bits) c.loop-i.i (length bits - 14) c.loop-i.invariant.0 in
+    (omega arith, omega arith, ap (λ (p : ℕ). register p (bits_of bits c.loop-i.i)) c.loop-i.invariant.2 ∙ sym next)

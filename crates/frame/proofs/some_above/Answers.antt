@@ -12,15 +12,12 @@ use Rattle.frame.proofs.some_above.Goals as goal
 
 pub returns-then-bytes-i : goal.returns-then-bytes-i
 returns-then-bytes-i c =
-    let at = c in
-    some-here (ltb at.args.limit) at.args.bytes.now at.loop-i.i at.loop-i.invariant.1 0 (omega arith) (lt-ltb _ _ c.if-bytes-i.true)
+    some-here (ltb c.args.limit) c.args.bytes.now c.loop-i.i c.loop-i.invariant.1 0 (omega arith) (lt-ltb _ _ c.if-bytes-i.true)
 
 pub loop-i-preserved : goal.loop-i-preserved
 loop-i-preserved c =
-    let at = c in
-    (omega arith, not-here (ltb at.args.limit) at.args.bytes.now at.loop-i.i at.loop-i.invariant.1 0 (omega arith) (le-ltb _ _ c.if-bytes-i.false))
+    (omega arith, not-here (ltb c.args.limit) c.args.bytes.now c.loop-i.i c.loop-i.invariant.1 0 (omega arith) (le-ltb _ _ c.if-bytes-i.false))
 
 pub returns : goal.returns
 returns c =
-    let at = c in
-    none_left (ltb at.args.limit) at.args.bytes.now at.loop-i.i at.loop-i.invariant.1 (omega arith)
+    none_left (ltb c.args.limit) c.args.bytes.now c.loop-i.i c.loop-i.invariant.1 (omega arith)

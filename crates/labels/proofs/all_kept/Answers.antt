@@ -18,22 +18,19 @@ overflow_cast-label c = omega (arith, c.label.ensures, label-lt c.loop-half.half
 
 pub upper_kept-kept-requires : goal.upper_kept-kept-requires
 upper_kept-kept-requires c =
-    let at = c in
-    let power = at.loop-half.invariant.1 in
-    (at.requires, power-half power c.loop-half-test.true, adds power c.label.ensures, at.loop-half.invariant.2)
+    let power = c.loop-half.invariant.1 in
+    (c.requires, power-half power c.loop-half-test.true, adds power c.label.ensures, c.loop-half.invariant.2)
 
 pub loop-half-preserved : goal.loop-half-preserved
 loop-half-preserved c =
-    let at = c in
-    let twice : at.loop-half.half + at.loop-half.half ≡ at.loop-half.half * 2 = omega arith in (
-      suc at.loop-half.invariant.0,
-      power-next at.loop-half.invariant.1 c.loop-half-test.true,
-      c.upper_kept-kept.ensures ∙ ap (λ (n : ℕ). every n (keeps_at at.args.table.now)) twice,
+    let twice : c.loop-half.half + c.loop-half.half ≡ c.loop-half.half * 2 = omega arith in (
+      suc c.loop-half.invariant.0,
+      power-next c.loop-half.invariant.1 c.loop-half-test.true,
+      c.upper_kept-kept.ensures ∙ ap (λ (n : ℕ). every n (keeps_at c.args.table.now)) twice,
     )
 
 pub returns : goal.returns
 unfolding labelled
 returns c =
-    let at = c in
-    let all : at.loop-half.half ≡ 32768 = power-whole at.loop-half.invariant.1 (omega arith) in
-    at.loop-half.invariant.2 ∙ ap (λ (n : ℕ). every n (keeps_at at.args.table.now)) all
+    let all : c.loop-half.half ≡ 32768 = power-whole c.loop-half.invariant.1 (omega arith) in
+    c.loop-half.invariant.2 ∙ ap (λ (n : ℕ). every n (keeps_at c.args.table.now)) all

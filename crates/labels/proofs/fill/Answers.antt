@@ -21,12 +21,10 @@ overflow_cast-label c = omega (arith, c.label.ensures, label-lt c.loop-half.half
 
 pub fill_upper-requires : goal.fill_upper-requires
 fill_upper-requires c =
-    let at = c in
-    let inv = at.loop-half.invariant in
+    let inv = c.loop-half.invariant in
     (inv.2, power-half inv.1 c.loop-half-test.true, adds inv.1 c.label.ensures, inv.3)
 
 pub loop-half-preserved : goal.loop-half-preserved
 loop-half-preserved c =
-    let at = c in
     let new = c.fill_upper.ensures in
-    (suc at.loop-half.invariant.0, power-next at.loop-half.invariant.1 c.loop-half-test.true, new.0, (λ r h. new.1 r (omega arith)))
+    (suc c.loop-half.invariant.0, power-next c.loop-half.invariant.1 c.loop-half-test.true, new.0, (λ r h. new.1 r (omega arith)))

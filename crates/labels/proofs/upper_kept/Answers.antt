@@ -11,6 +11,5 @@ use Rattle.labels.proofs.upper_kept.Goals as goal
 
 pub loop-i-preserved : goal.loop-i-preserved
 loop-i-preserved c =
-    let at = c in
-    let a = at.args in
-    (omega arith, c.both-kept.ensures ∙ kept-further a.table.now a.half a.by at.loop-i.i at.requires.2 (omega arith) at.loop-i.invariant.1)
+    let a = c.args in
+    (omega arith, c.both-kept.ensures ∙ kept-further a.table.now a.half a.by c.loop-i.i c.requires.2 (omega arith) c.loop-i.invariant.1)

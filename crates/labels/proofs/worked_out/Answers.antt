@@ -12,4 +12,4 @@ use Rattle.conv.proofs.Linear.{label-lt}
 use Rattle.labels.proofs.worked_out.Goals as goal
 
 pub overflow_cast-row : goal.overflow_cast-row
-overflow_cast-row c = let at = c in omega (arith, c.label.ensures, label-lt (at.args.first + at.loop-k.k))
+overflow_cast-row c = omega (arith, c.label.ensures, label-lt (c.args.first + c.loop-k.k))

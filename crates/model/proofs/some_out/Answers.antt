@@ -13,17 +13,14 @@ use Rattle.model.proofs.some_out.Goals as goal
 
 pub returns-then-out_of_range : goal.returns-then-out_of_range
 returns-then-out_of_range c =
-    let at = c in
-    some-here out_of_range at.args.terms.now at.loop-i.i at.loop-i.invariant.1 nan (omega arith)
+    some-here out_of_range c.args.terms.now c.loop-i.i c.loop-i.invariant.1 nan (omega arith)
     (sym c.out_of_range.ensures ∙ c.if-out_of_range.true)
 
 pub loop-i-preserved : goal.loop-i-preserved
 loop-i-preserved c =
-    let at = c in
     let out = sym c.out_of_range.ensures ∙ c.if-out_of_range.false in
-    (omega arith, not-here out_of_range at.args.terms.now at.loop-i.i at.loop-i.invariant.1 nan (omega arith) out)
+    (omega arith, not-here out_of_range c.args.terms.now c.loop-i.i c.loop-i.invariant.1 nan (omega arith) out)
 
 pub returns : goal.returns
 returns c =
-    let at = c in
-    none_left out_of_range at.args.terms.now at.loop-i.i at.loop-i.invariant.1 (omega arith)
+    none_left out_of_range c.args.terms.now c.loop-i.i c.loop-i.invariant.1 (omega arith)

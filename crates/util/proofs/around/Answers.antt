@@ -7,33 +7,29 @@ use Rattle.util.proofs.around.Goals as goal
 
 pub returns-then-suitable : goal.returns-then-suitable
 returns-then-suitable c =
-    let at = c in
-    upper (suits at.args.n) at.args.n at.args.s at.loop-d.d (omega arith)
+    upper (suits c.args.n) c.args.n c.args.s c.loop-d.d (omega arith)
     (sym c.suitable.ensures ∙ c.if-suitable.true)
-    ∙ at.loop-d.invariant.1
+    ∙ c.loop-d.invariant.1
 
 pub returns-then-suitable-2 : goal.returns-then-suitable-2
 returns-then-suitable-2 c =
-    let at = c in
     let less = c.saturating_sub-below.ensures in
     less
-    ∙ lower (suits at.args.n) at.args.n at.args.s at.loop-d.d (omega arith)
+    ∙ lower (suits c.args.n) c.args.n c.args.s c.loop-d.d (omega arith)
     (sym c.suitable.ensures ∙ c.if-suitable.false)
-    (sym (ap (suits at.args.n) less) ∙ sym c.suitable-in-loop-d.ensures ∙ c.if-suitable-2.true)
-    ∙ at.loop-d.invariant.1
+    (sym (ap (suits c.args.n) less) ∙ sym c.suitable-in-loop-d.ensures ∙ c.if-suitable-2.true)
+    ∙ c.loop-d.invariant.1
 
 pub loop-d-preserved : goal.loop-d-preserved
 loop-d-preserved c =
-    let at = c in
     let less = c.saturating_sub-below.ensures in (
       omega arith,
-      sym (both-fail (suits at.args.n) at.args.n at.args.s at.loop-d.d (omega arith)
+      sym (both-fail (suits c.args.n) c.args.n c.args.s c.loop-d.d (omega arith)
           (sym c.suitable.ensures ∙ c.if-suitable.false)
-          (sym (ap (suits at.args.n) less) ∙ sym c.suitable-in-loop-d.ensures ∙ c.if-suitable-2.false))
-          ∙ at.loop-d.invariant.1,
+          (sym (ap (suits c.args.n) less) ∙ sym c.suitable-in-loop-d.ensures ∙ c.if-suitable-2.false))
+          ∙ c.loop-d.invariant.1,
     )
 
 pub returns : goal.returns
 returns c =
-    let at = c in
-    sym (none_left (suits at.args.n) at.args.n at.args.s at.loop-d.d (omega arith)) ∙ at.loop-d.invariant.1
+    sym (none_left (suits c.args.n) c.args.n c.args.s c.loop-d.d (omega arith)) ∙ c.loop-d.invariant.1

@@ -11,12 +11,11 @@ turn bits crc i h =
     ap (λ (n : ℕ). crc_of (crc_step crc (get_or bits i 0)) (drop n bits)) (add-one i) ∙ sym (ap (crc_of crc) (drop-cons bits i 0 h))
 
 pub loop-i-preserved : goal.loop-i-preserved
-loop-i-preserved c =
-    let at = c in (
-      omega arith,
-      ap (λ (x : ℕ). crc_of x (drop (at.loop-i.i + 1) at.args.bits.now)) c.crc_step-crc.ensures
-          ∙ turn at.args.bits.now at.loop-i.crc at.loop-i.i (omega arith) ∙ at.loop-i.invariant.1,
-    )
+loop-i-preserved c = (
+  omega arith,
+  ap (λ (x : ℕ). crc_of x (drop (c.loop-i.i + 1) c.args.bits.now)) c.crc_step-crc.ensures
+      ∙ turn c.args.bits.now c.loop-i.crc c.loop-i.i (omega arith) ∙ c.loop-i.invariant.1,
+)
 
 pub returns : goal.returns
 unfolding crc_of

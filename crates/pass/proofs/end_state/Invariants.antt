@@ -1,0 +1,20 @@
+-- `pass::end_state` meets its contract. The invariant: the lowest of the greatest among the states passed.
+-- The measure is what is left of them. Assumes nothing.
+use Prim.Native.Nat.{ℕ, ◌+◌, ◌-◌, ◌≤◌, ◌<◌}
+use mathlib.Core.Bool.{true, false}
+use mathlib.Core.Logic.{⊎_elim}
+use mathlib.Core.Path.{◌≡◌, refl, ◌∙◌}
+use native.Mathlib.Numerals.{add-one}
+use native.Mathlib.Omega.{arith}
+use borrow.Author.Rules.{rules}
+use lib.Ieee.{Float, lt}
+use Rattle.pass.specs.Areas.{table}
+use Rattle.trellis.specs.Numbers.{single}
+use Rattle.trellis.specs.Scale.{highest}
+use Rattle.pass.proofs.end_state.Given as goal
+
+abbrev pub invariant-loop-s : goal.invariant-loop-s
+invariant-loop-s l = (l.s ≤ 16384) × (l.best < 16384) × (l.best ≡ highest single (table l.scores) l.s)
+
+abbrev pub decreases-loop-s : goal.decreases-loop-s
+decreases-loop-s l = 16384 - l.s

@@ -1,0 +1,20 @@
+-- `pass::top_gain` meets its contract. The invariant: the greatest gain among the states passed.
+-- The measure is what is left of them. Assumes nothing.
+use Prim.Native.Nat.{ℕ, ◌+◌, ◌-◌, ◌≤◌}
+use mathlib.Core.Bool.{Bool, true, false}
+use mathlib.Core.Path.{◌≡◌, refl, ap, ◌∙◌}
+use native.Mathlib.Numerals.{add-one}
+use native.Mathlib.Omega.{arith}
+use borrow.Author.Rules.{rules}
+use lib.Ieee.{Float, lt}
+use Rattle.util.specs.Choose.{choose}
+use Rattle.trellis.specs.Numbers.{single}
+use Rattle.trellis.specs.Scale.{highest}
+use Rattle.pass.specs.Areas.{gain_in}
+use Rattle.pass.proofs.top_gain.Given as goal
+
+abbrev pub invariant-loop-s : goal.invariant-loop-s
+invariant-loop-s l = (l.s ≤ 16384) × (l.top ≡ gain_in l.scores l.start (highest single (gain_in l.scores l.start) l.s))
+
+abbrev pub decreases-loop-s : goal.decreases-loop-s
+decreases-loop-s l = 16384 - l.s
