@@ -12,7 +12,7 @@ use mathlib.Core.Bool.{Bool, true, false, ◌&&◌}
 use lib.Dec.{T, ltb, leb, eqb, leb→le, ltb→lt}
 use lib.Pow.{pow-add, pow_pos, pow-lt, pow_mono, shl_lt}
 use lib.IntN.{ℤ, pos, negsuc}
-use lib.Ieee.{Float, nan, inf, fin, Format, prec, emax, low, up, down, size, round, add, sub, mul, div, neg, le, fits}
+use lib.Ieee.{Float, nan, inf, fin, Format, prec, emax, low, up, down, size, round, add, sub, mul, div, neg, fits}
 use lib.Ieee.Digits.{back, size-lt}
 use lib.Ieee.Exact.{round_exact}
 use lib.Ieee.Fits.{div-fits, and_l, and_r}

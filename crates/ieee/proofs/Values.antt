@@ -11,7 +11,7 @@ use lib.Pow.{pow-add, pow_pos}
 use lib.IntN.{ℤ, pos, negsuc, nat_abs, ◌+ℤ◌, ◌-ℤ◌}
 use lib.Signed.{le_z, ≤ℤ_refl}
 use lib.Ieee.{Float, nan, inf, fin, Format, binary32, prec, emax, low, up, down, size, hid, top}
-use lib.Ieee.{round, sum, add, sub, neg, of_int, of_bits, to_bits, eq, lt, le, fits, in_float}
+use lib.Ieee.{round, sum, add, sub, neg, of_int, of_bits, to_bits, eq, le, fits, in_float}
 use lib.Ieee.Bits.{of_bits-to_bits, to_bits-lt}
 use lib.Ieee.Exact.{HasValue, round_exact}
 use lib.Ieee.Fits.{and_l, and_r, down_pos, round-fits, add-fits, sub-fits, of_int-fits}

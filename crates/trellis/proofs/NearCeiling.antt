@@ -14,13 +14,11 @@ use lib.Dec.{T, leb→le, eqb→eq, lit<, lit≤}
 use lib.ListN.{length}
 use lib.IntN.{ℤ, pos, negsuc, neg_ℤ, nat_abs, ◌+ℤ◌, ◌-ℤ◌, +ℤ_assoc, +ℤ_comm, +ℤ_idl, +ℤ_idr, +ℤ-neg_ℤ_cancel, -ℤ-+ℤ_cancel}
 use lib.Signed.{◌≤ℤ◌}
-use lib.Ieee.{Float, binary32, fits, le}
-use lib.Ieee.Scale.{finite}
+use lib.Ieee.{Float, binary32, le}
 use Rattle.ieee.specs.Whole.{plus_zero}
 use Rattle.ieee.specs.Size.{Upto}
 use Rattle.ieee.specs.Units.{Units, Near}
 use Rattle.ieee.proofs.Integers.{abs-add, abs-sub, by-test}
-use Rattle.ieee.proofs.Order as Order
 use Rattle.ieee.proofs.Rounds.{sub-nonpos, sub-nonneg}
 use Rattle.ieee.proofs.Sizes.{upto_zero, upto-wider, upto-within, sub-upto}
 use Rattle.ieee.proofs.Units.{in_units, units-zero, units-fits, units-size, upto-units, sub-near, le-units}

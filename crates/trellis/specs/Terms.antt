@@ -11,7 +11,7 @@ use Rattle.trellis.specs.Scale.{Scale}
 use Rattle.trellis.specs.Trellis.{Trellis}
 use Rattle.trellis.specs.Search.{search, ceiling}
 use Rattle.trellis.specs.Answer.{Answer, answer_of}
-use Rattle.trellis.specs.Numbers.{single, whole}
+use Rattle.trellis.specs.Numbers.{single}
 
 -- header symbol s has hop(s); the place of value v's bin
 abbrev pub place_in : ℕ → ℕ → ℕ → ℕ

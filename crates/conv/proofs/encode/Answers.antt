@@ -1,17 +1,16 @@
 -- `conv::encode` meets its contract. The invariant: the state is the walk's after j steps, and the labels of the first j are placed.
 -- The measure is what is left of the length. Assumes nothing.
-use Prim.Native.Nat.{ℕ, ◌+◌, ◌-◌, ◌%◌, ◌≤◌, ◌<◌}
+use Prim.Native.Nat.{ℕ, ◌+◌, ◌%◌, ◌<◌}
 use mathlib.Core.Bool.{false}
 use mathlib.Core.List.{List}
 use mathlib.Core.Path.{◌≡◌, refl, sym, ap, ◌∙◌}
 use native.Mathlib.Numerals.{add-one}
 use native.Mathlib.Omega.{arith}
-use borrow.Author.Rules.{rules}
 use lib.ListN.{length}
 use Rattle.frame.specs.Format.{header_bits}
 use Rattle.frame.specs.Air.{placed}
 use Rattle.frame.specs.Crc.{some_above_one}
-use Rattle.frame.proofs.Air.{header-least, slot-within}
+use Rattle.frame.proofs.Air.{slot-within}
 use Rattle.frame.proofs.Placed.{placed-step, placed-long}
 use Rattle.conv.specs.Label.{label_of}
 use Rattle.conv.specs.Encoder as encoder

@@ -1,6 +1,5 @@
 -- `conv::label` meets its contract: the code is the definition, and five parities make a small sum. Assumes nothing.
 use native.Mathlib.Omega.{arith}
-use borrow.Author.Rules.{rules}
 use Rattle.conv.specs.Label.{label_of}
 use Rattle.conv.proofs.label.Goals as goal
 

@@ -1,5 +1,4 @@
 -- `frame::base_start` meets its contract, by the test on the mode. Assumes nothing.
-use borrow.Author.Rules.{rules}
 use borrow.Author.Tests.{eq-eqb, ne_eqb}
 use Rattle.frame.specs.Crc.{base_start}
 use Rattle.frame.proofs.base_start.Goals as goal

@@ -1,12 +1,5 @@
 -- `frame::crc` meets its contract: each return by the tests that led there. Assumes nothing.
-use Prim.Native.Nat.{ℕ}
-use mathlib.Core.Bool.{true}
-use mathlib.Core.Path.{◌≡◌, sym, ap, ◌∙◌}
-use borrow.Author.Rules.{rules}
-use borrow.Author.Tests.{lt-ltb, le-ltb, not-true, not-false}
-use Rattle.util.specs.Refusal.{accepted}
-use Rattle.util.specs.Crc.{crc_of}
-use Rattle.frame.specs.Format.{named, layout_named}
+use mathlib.Core.Path.{sym, ◌∙◌}
 use Rattle.frame.proofs.Named.{kind-named}
 use Rattle.frame.proofs.crc.Goals as goal
 

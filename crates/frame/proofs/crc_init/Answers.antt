@@ -1,6 +1,5 @@
 -- `frame::crc_init` meets its contract: the code is the definition. Assumes nothing.
 use mathlib.Core.Path.{ap₂}
-use borrow.Author.Rules.{rules}
 use lib.Bits.{bit_xor}
 use Rattle.frame.specs.Crc.{start_of}
 use Rattle.frame.proofs.crc_init.Goals as goal

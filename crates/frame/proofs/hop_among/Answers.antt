@@ -1,7 +1,6 @@
 -- `frame::hop_among` meets its contract: the code is the definition. Assumes nothing.
 use Prim.Native.Nat.{ℕ, ◌%◌}
 use mathlib.Core.Path.{ap}
-use borrow.Author.Rules.{rules}
 use Rattle.frame.specs.Air.{hop_of}
 use Rattle.frame.proofs.hop_among.Goals as goal
 

@@ -1,7 +1,6 @@
 -- `frame::layout_mask` meets its contract, by the test on the full band: the code is the definition. Assumes nothing.
 use Prim.Native.Nat.{ℕ, ◌%◌, ◌^◌}
 use mathlib.Core.Path.{sym, ap, ◌∙◌}
-use borrow.Author.Rules.{rules}
 use borrow.Author.Tests.{eq-eqb, ne_eqb}
 use lib.Bits.{bit_or}
 use Rattle.util.proofs.Choose.{chosen, not_chosen}

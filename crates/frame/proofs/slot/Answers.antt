@@ -1,10 +1,7 @@
 -- `frame::slot` meets its contract: the code is the definition, and a product of numbers to 10,240 does not wrap.
 -- Assumes nothing.
-use Prim.Native.Nat.{ℕ, ◌*◌, ◌%◌, ◌<◌}
+use Prim.Native.Nat.{ℕ, ◌*◌, ◌%◌}
 use mathlib.Core.Path.{ap}
-use native.Mathlib.Omega.{arith}
-use borrow.Author.Rules.{rules}
-use Rattle.util.proofs.Halves.{below}
 use Rattle.frame.specs.Air.{slot_of}
 use Rattle.frame.proofs.slot.Goals as goal
 

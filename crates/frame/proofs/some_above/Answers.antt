@@ -1,12 +1,8 @@
 -- `frame::some_above` meets its contract. The invariant: what is left has a byte above the limit exactly where the
 -- whole has one. The measure is what is left of the length. Assumes nothing.
-use Prim.Native.Nat.{◌-◌, ◌≤◌}
-use mathlib.Core.Path.{◌≡◌, refl}
 use native.Mathlib.Omega.{arith}
 use borrow.Author.Tests.{lt-ltb, le-ltb}
 use lib.Dec.{ltb}
-use lib.ListN.{length, drop}
-use Rattle.util.specs.Some.{some_of}
 use Rattle.util.proofs.Some.{some-here, not-here, none_left}
 use Rattle.frame.proofs.some_above.Goals as goal
 

@@ -1,13 +1,12 @@
 -- `labels::all_kept` meets its contract. The invariant: kept says whether the entries below `half`, a power of two, keep to the rule. The
 -- measure is what is left of them. Assumes nothing.
-use Prim.Native.Nat.{ℕ, suc, ◌+◌, ◌*◌, ◌-◌}
+use Prim.Native.Nat.{ℕ, suc, ◌+◌, ◌*◌}
 use mathlib.Core.Path.{◌≡◌, ap, ◌∙◌}
 use native.Mathlib.Omega.{arith}
-use borrow.Author.Rules.{rules}
 use Rattle.util.specs.Every.{every}
 use Rattle.conv.proofs.Linear.{label-lt}
 use Rattle.labels.specs.Labels.{keeps_at, labelled}
-use Rattle.labels.proofs.Kept.{Power, power-one, power-next, power-half, power-whole, power_pos, adds, first-kept}
+use Rattle.labels.proofs.Kept.{power-one, power-next, power-half, power-whole, adds, first-kept}
 use Rattle.labels.proofs.all_kept.Goals as goal
 
 pub loop-half-init : goal.loop-half-init

@@ -1,13 +1,10 @@
 -- `labels::all_kept` meets its contract. The invariant: kept says whether the entries below `half`, a power of two, keep to the rule. The
 -- measure is what is left of them. Assumes nothing.
-use Prim.Native.Nat.{ℕ, suc, ◌+◌, ◌*◌, ◌-◌}
-use mathlib.Core.Path.{◌≡◌, ap, ◌∙◌}
-use native.Mathlib.Omega.{arith}
-use borrow.Author.Rules.{rules}
+use Prim.Native.Nat.{ℕ, ◌-◌}
+use mathlib.Core.Path.{◌≡◌}
 use Rattle.util.specs.Every.{every}
-use Rattle.conv.proofs.Linear.{label-lt}
-use Rattle.labels.specs.Labels.{keeps_at, labelled}
-use Rattle.labels.proofs.Kept.{Power, power-one, power-next, power-half, power-whole, power_pos, adds, first-kept}
+use Rattle.labels.specs.Labels.{keeps_at}
+use Rattle.labels.proofs.Kept.{Power}
 use Rattle.labels.proofs.all_kept.Given as goal
 
 abbrev pub invariant-loop-half : goal.invariant-loop-half

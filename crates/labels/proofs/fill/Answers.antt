@@ -1,13 +1,11 @@
 -- `labels::fill` meets its contract. The invariant: the entries below `half`, a power of two, are labels. The measure is what is left of
 -- them. Assumes nothing.
-use Prim.Native.Nat.{ℕ, suc, ◌-◌}
-use mathlib.Core.Path.{◌≡◌, sym, ◌∙◌}
+use Prim.Native.Nat.{suc}
+use mathlib.Core.Path.{◌≡◌, ◌∙◌}
 use native.Mathlib.Omega.{arith}
-use borrow.Author.Rules.{rules}
 use lib.ListN.{length, length-set}
 use Rattle.conv.proofs.Linear.{label-lt}
-use Rattle.labels.specs.Labels.{Labels}
-use Rattle.labels.proofs.Kept.{Power, power-one, power-next, power-half, power-whole, power_pos, adds, first-filled}
+use Rattle.labels.proofs.Kept.{power-one, power-next, power-half, adds, first-filled}
 use Rattle.labels.proofs.fill.Goals as goal
 
 pub loop-half-init : goal.loop-half-init

@@ -1,7 +1,6 @@
 -- `labels::fill_labels` meets its contract: a table of another length is refused and left as it was, else it is the one table of all labels
 -- (`labels-only`). Assumes nothing.
-use borrow.Author.Rules.{rules}
-use borrow.Author.Tests.{eq-eqb, ne_eqb}
+use borrow.Author.Tests.{eq-eqb}
 use Rattle.labels.proofs.Kept.{labels-only}
 use Rattle.labels.proofs.fill_labels.Goals as goal
 

@@ -1,13 +1,8 @@
 -- `labels::fill_upper` meets its contract. The invariant: the entries below `half` + r are labels. The measure is what is left of
 -- them. Assumes nothing.
-use Prim.Native.Nat.{ℕ, ◌+◌, ◌-◌, ◌≤◌}
-use mathlib.Core.Path.{◌≡◌, ap, sym, ◌∙◌}
-use native.Mathlib.Omega.{arith}
-use borrow.Author.Rules.{rules}
-use lib.Bits.{bit_xor}
-use lib.ListN.{length, get_or, length-set}
-use Rattle.util.proofs.Fill.{up_done}
-use Rattle.conv.specs.Label.{label_of}
+use Prim.Native.Nat.{◌+◌, ◌-◌, ◌≤◌}
+use mathlib.Core.Path.{◌≡◌}
+use lib.ListN.{length}
 use Rattle.labels.specs.Labels.{Labels}
 use Rattle.labels.proofs.fill_upper.Given as goal
 

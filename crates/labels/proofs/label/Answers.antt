@@ -1,6 +1,5 @@
 -- `labels::label` meets its contract: an entry of a lawful table is its register's label, and so is what the parities give. Assumes nothing.
 use native.Mathlib.Omega.{arith}
-use borrow.Author.Rules.{rules}
 use Rattle.conv.proofs.Linear.{label-lt}
 use Rattle.labels.proofs.label.Goals as goal
 

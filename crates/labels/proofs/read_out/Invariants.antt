@@ -1,12 +1,8 @@
 -- `labels::read_out` meets its contract. The invariant: the places passed hold their registers' labels. The measure is what is left of the
 -- 64. Assumes nothing.
 use Prim.Native.Nat.{ℕ, ◌+◌, ◌-◌, ◌≤◌, ◌<◌}
-use mathlib.Core.Path.{◌≡◌, refl}
-use native.Mathlib.Nat.{not-suc-le-zero}
-use native.Mathlib.Omega.{arith}
-use borrow.Author.Rules.{rules}
-use lib.ListN.{length, get_or, length-set}
-use Rattle.util.proofs.Fill.{up_done}
+use mathlib.Core.Path.{◌≡◌}
+use lib.ListN.{length, get_or}
 use Rattle.conv.specs.Label.{label_of}
 use Rattle.labels.proofs.read_out.Given as goal
 

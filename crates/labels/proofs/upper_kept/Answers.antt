@@ -1,11 +1,7 @@
 -- `labels::upper_kept` meets its contract. The invariant: kept says whether the entries below `half` + i keep to the rule. The
 -- measure is what is left of them. Assumes nothing.
-use Prim.Native.Nat.{ℕ, ◌+◌, ◌-◌, ◌≤◌}
-use mathlib.Core.Path.{◌≡◌, ap, ◌∙◌}
+use mathlib.Core.Path.{◌∙◌}
 use native.Mathlib.Omega.{arith}
-use borrow.Author.Rules.{rules}
-use Rattle.util.specs.Every.{every}
-use Rattle.labels.specs.Labels.{keeps_at}
 use Rattle.labels.proofs.Kept.{kept-further}
 use Rattle.labels.proofs.upper_kept.Goals as goal
 

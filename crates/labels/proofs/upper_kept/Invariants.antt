@@ -1,12 +1,9 @@
 -- `labels::upper_kept` meets its contract. The invariant: kept says whether the entries below `half` + i keep to the rule. The
 -- measure is what is left of them. Assumes nothing.
-use Prim.Native.Nat.{ℕ, ◌+◌, ◌-◌, ◌≤◌}
-use mathlib.Core.Path.{◌≡◌, ap, ◌∙◌}
-use native.Mathlib.Omega.{arith}
-use borrow.Author.Rules.{rules}
+use Prim.Native.Nat.{◌+◌, ◌-◌, ◌≤◌}
+use mathlib.Core.Path.{◌≡◌}
 use Rattle.util.specs.Every.{every}
 use Rattle.labels.specs.Labels.{keeps_at}
-use Rattle.labels.proofs.Kept.{kept-further}
 use Rattle.labels.proofs.upper_kept.Given as goal
 
 abbrev pub invariant-loop-i : goal.invariant-loop-i

@@ -1,7 +1,6 @@
 -- `model::metric` meets its contract: the code adds the five terms that the definition names. Assumes nothing.
 use mathlib.Core.Path.{refl, sym}
 use native.Mathlib.Omega.{arith}
-use borrow.Author.Rules.{rules}
 use lib.Ieee.{binary32, add, nan, of_bits}
 use lib.ListN.{get_or}
 use Rattle.ieee.specs.Whole.{plus_zero}

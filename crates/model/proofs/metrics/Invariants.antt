@@ -1,17 +1,12 @@
 -- `model::metrics` meets its contract. The invariant: the values passed have their metrics. The measure is what is left of the 32.
 -- Assumes nothing.
 use Prim.Native.Nat.{ℕ, ◌-◌, ◌≤◌, ◌<◌}
-use mathlib.Core.Path.{◌≡◌, refl, ap, ◌∙◌}
-use native.Mathlib.Nat.{not-suc-le-zero}
-use native.Mathlib.Omega.{arith}
-use borrow.Author.Rules.{rules}
+use mathlib.Core.Path.{◌≡◌}
 use lib.Ieee.{binary32, add, nan}
-use lib.ListN.{length, get_or, length-set}
-use Rattle.frame.proofs.Air.{bin-below}
+use lib.ListN.{length, get_or}
 use Rattle.frame.specs.Air.{bin_of, place_of}
 use Rattle.ieee.specs.Whole.{plus_zero}
 use Rattle.model.specs.Metric.{metric_of}
-use Rattle.util.proofs.Fill.{up_done}
 use Rattle.model.proofs.metrics.Given as goal
 
 abbrev pub invariant-loop-v : goal.invariant-loop-v

@@ -1,14 +1,10 @@
 -- `model::some_out` meets its contract. The invariant: what is left has a term out of range exactly where the whole has one.
 -- The measure is what is left of the length. Assumes nothing.
-use Prim.Native.Nat.{◌-◌, ◌≤◌}
-use mathlib.Core.Path.{◌≡◌, refl, sym, ◌∙◌}
+use mathlib.Core.Path.{sym, ◌∙◌}
 use native.Mathlib.Omega.{arith}
-use borrow.Author.Rules.{rules}
 use lib.Ieee.{nan}
-use lib.ListN.{length, drop}
 use Rattle.model.specs.Range.{out_of_range}
 use Rattle.util.proofs.Some.{some-here, not-here, none_left}
-use Rattle.util.specs.Some.{some_of}
 use Rattle.model.proofs.some_out.Goals as goal
 
 pub returns-then-out_of_range : goal.returns-then-out_of_range

@@ -1,13 +1,9 @@
 -- `model::some_out` meets its contract. The invariant: what is left has a term out of range exactly where the whole has one.
 -- The measure is what is left of the length. Assumes nothing.
 use Prim.Native.Nat.{◌-◌, ◌≤◌}
-use mathlib.Core.Path.{◌≡◌, refl, sym, ◌∙◌}
-use native.Mathlib.Omega.{arith}
-use borrow.Author.Rules.{rules}
-use lib.Ieee.{nan}
+use mathlib.Core.Path.{◌≡◌}
 use lib.ListN.{length, drop}
 use Rattle.model.specs.Range.{out_of_range}
-use Rattle.util.proofs.Some.{some-here, not-here, none_left}
 use Rattle.util.specs.Some.{some_of}
 use Rattle.model.proofs.some_out.Given as goal
 

@@ -1,11 +1,10 @@
 -- `pass::end_state` meets its contract. The invariant: the lowest of the greatest among the states passed.
 -- The measure is what is left of them. Assumes nothing.
-use Prim.Native.Nat.{ℕ, ◌+◌, ◌-◌, ◌≤◌, ◌<◌}
+use Prim.Native.Nat.{ℕ, ◌+◌}
 use mathlib.Core.Bool.{true, false}
 use mathlib.Core.Path.{◌≡◌, refl, ◌∙◌}
 use native.Mathlib.Numerals.{add-one}
 use native.Mathlib.Omega.{arith}
-use borrow.Author.Rules.{rules}
 use lib.Ieee.{Float, lt}
 use Rattle.pass.specs.Areas.{table}
 use Rattle.trellis.specs.Numbers.{single}

@@ -1,11 +1,9 @@
 -- `pass::pass` meets its contract. The invariant: an even number of steps has run, the areas taking turns (`Turned`). The measure is what
 -- is left of them. Assumes nothing.
-use Prim.Native.Nat.{◌-◌, ◌%◌, ◌≤◌}
-use mathlib.Core.Path.{◌≡◌, refl, ◌∙◌}
+use mathlib.Core.Path.{refl}
 use native.Mathlib.Omega.{arith}
-use borrow.Author.Rules.{rules}
 use Rattle.pass.proofs.Steps.{turned}
-use Rattle.pass.specs.Areas.{table, steps_in, Turned}
+use Rattle.pass.specs.Areas.{table}
 use Rattle.pass.proofs.pass.Goals as goal
 
 pub loop-j-preserved : goal.loop-j-preserved

@@ -1,11 +1,7 @@
 -- `pass::path_metric` meets its contract: the code is the definition, and a label is below 32. Assumes nothing.
-use Prim.Native.Nat.{ℕ, ◌+◌, ◌*◌, ◌/◌, ◌<◌}
-use mathlib.Core.Path.{ap}
+use Prim.Native.Nat.{◌<◌}
 use native.Mathlib.Omega.{arith}
-use borrow.Author.Rules.{rules}
-use lib.Ieee.{add, binary32}
 use Rattle.conv.proofs.Linear.{label-lt}
-use Rattle.pass.specs.Areas.{table}
 use Rattle.pass.proofs.path_metric.Goals as goal
 use Rattle.pass.proofs.path_metric.Goals.{Start}
 

@@ -1,19 +1,9 @@
 -- `pass::states` meets its contract. The invariant: from state k of the word on the scores and the decisions are done, the scores below
 -- are as they were, and the row holds the labels of the lower registers. The measure is k. Assumes nothing.
 use Prim.Native.Nat.{ℕ, ◌+◌, ◌*◌, ◌-◌, ◌^◌, ◌≤◌, ◌<◌}
-use mathlib.Core.Path.{◌≡◌, refl, sym, ap, ◌∙◌}
-use native.Mathlib.Nat.{lt_irrefl, lt_of_lt_of_le}
-use native.Mathlib.Nat.{not-suc-le-zero}
-use native.Mathlib.Omega.{arith}
-use borrow.Author.Rules.{rules}
-use lib.Bits.{bit_xor}
-use lib.Ieee.{nan}
-use lib.ListN.{length, length-set}
-use Rattle.pass.proofs.Bits.{flags-more, room, longer, none}
-use Rattle.conv.proofs.Linear.{label-lt, label-upper}
+use mathlib.Core.Path.{◌≡◌}
+use lib.ListN.{length}
 use Rattle.labels.specs.Labels.{Row}
-use Rattle.util.proofs.Fill.{down-done, down-kept}
-use Rattle.pass.proofs.Steps.{score-is, decision-is}
 use Rattle.pass.specs.Areas.{table, over, flag}
 use Rattle.trellis.specs.Search.{upper, step}
 use Rattle.pass.proofs.states.Given as goal

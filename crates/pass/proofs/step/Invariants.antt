@@ -1,17 +1,10 @@
 -- `pass::step` meets its contract. The invariant: the words passed are done. The measure is what is left of the 256.
 -- Assumes nothing.
-use Prim.Native.Nat.{ℕ, ◌+◌, ◌*◌, ◌-◌, ◌/◌, ◌%◌, ◌≤◌, ◌<◌}
-use mathlib.Core.Logic.{⊎_elim}
-use mathlib.Core.Path.{◌≡◌, refl, sym, ap, ◌∙◌}
-use native.Mathlib.Nat.{ne_of_lt, not-suc-le-zero}
-use native.Mathlib.Omega.{arith}
-use borrow.Author.Count.{below_more}
-use borrow.Author.Rules.{rules}
-use lib.ListN.{length, get_or, set, length-set}
-use lib.Seq.{get_or-set_same, get_or-set_other}
+use Prim.Native.Nat.{ℕ, ◌+◌, ◌*◌, ◌-◌, ◌≤◌, ◌<◌}
+use mathlib.Core.Path.{◌≡◌}
+use lib.ListN.{length, get_or}
 use Rattle.pass.specs.Areas.{table, over, flag}
 use Rattle.trellis.specs.Search.{upper, step}
-use Rattle.util.proofs.Fill.{below_or_not}
 use Rattle.pass.proofs.step.Given as goal
 
 abbrev pub invariant-loop-w : goal.invariant-loop-w

@@ -1,13 +1,7 @@
 -- `pass::top_gain` meets its contract. The invariant: the greatest gain among the states passed.
 -- The measure is what is left of them. Assumes nothing.
-use Prim.Native.Nat.{ℕ, ◌+◌, ◌-◌, ◌≤◌}
-use mathlib.Core.Bool.{Bool, true, false}
-use mathlib.Core.Path.{◌≡◌, refl, ap, ◌∙◌}
-use native.Mathlib.Numerals.{add-one}
-use native.Mathlib.Omega.{arith}
-use borrow.Author.Rules.{rules}
-use lib.Ieee.{Float, lt}
-use Rattle.util.specs.Choose.{choose}
+use Prim.Native.Nat.{◌-◌, ◌≤◌}
+use mathlib.Core.Path.{◌≡◌}
 use Rattle.trellis.specs.Numbers.{single}
 use Rattle.trellis.specs.Scale.{highest}
 use Rattle.pass.specs.Areas.{gain_in}

@@ -1,11 +1,7 @@
 -- `steps::lay` meets its contract. The invariant: the places passed hold the row. The measure is what is left of the 32. Assumes nothing.
-use Prim.Native.Nat.{ℕ, ◌*◌, ◌-◌, ◌≤◌}
-use mathlib.Core.Path.{◌≡◌, refl}
-use native.Mathlib.Omega.{arith}
-use borrow.Author.Rules.{rules}
-use lib.Ieee.{Float, nan}
+use Prim.Native.Nat.{◌*◌, ◌-◌, ◌≤◌}
+use lib.Ieee.{nan}
 use lib.ListN.{get_or}
-use Rattle.util.proofs.Fill.{row-begun, row_more}
 use Rattle.util.specs.Table.{Stored}
 use Rattle.steps.proofs.lay.Given as goal
 

@@ -1,17 +1,10 @@
 -- `steps::row` meets its contract: the metrics of the symbol in the step's slot. Assumes nothing.
-use Prim.Native.Nat.{ℕ, ◌<◌}
-use mathlib.Core.Path.{◌≡◌, ◌∙◌}
+use Prim.Native.Nat.{◌<◌}
+use mathlib.Core.Path.{◌≡◌}
 use native.Mathlib.Nat.{mul-le-mul_right}
 use native.Mathlib.Omega.{arith}
-use borrow.Author.Rules.{rules}
-use lib.Ieee.{Float, add, binary32}
 use Rattle.frame.proofs.Air.{some-bins, hop-below, slot-within}
-use Rattle.frame.specs.Air.{bin_of, place_of}
 use Rattle.frame.specs.Format.{format_of, header_bits}
-use Rattle.steps.specs.Rows.{step_metric}
-use Rattle.ieee.specs.Whole.{plus_zero}
-use Rattle.model.specs.Metric.{metric_of}
-use Rattle.trellis.specs.Terms.{lent}
 use Rattle.steps.proofs.row.Goals as goal
 
 pub metrics-requires : goal.metrics-requires

@@ -1,12 +1,8 @@
 -- `steps::rows` meets its contract. The invariant: the steps passed stand in the list. The measure is what is left of them. Assumes nothing.
 use Prim.Native.Nat.{◌-◌, ◌≤◌}
-use mathlib.Core.Path.{◌≡◌, sym, ◌∙◌}
-use native.Mathlib.Omega.{arith}
-use borrow.Author.Rules.{rules}
+use mathlib.Core.Path.{◌≡◌}
 use lib.ListN.{length}
-use Rattle.frame.proofs.Air.{header-most}
 use Rattle.frame.specs.Format.{header_bits}
-use Rattle.steps.proofs.Laid.{rows_none, rows_more}
 use Rattle.steps.specs.Rows.{Rows}
 use Rattle.steps.proofs.rows.Given as goal
 

@@ -1,8 +1,8 @@
 -- `util::around` meets its contract. The invariant: the first that suits from the pair of d on is the first that suits at all.
 -- The measure is what is left of the n pairs. Assumes nothing.
-use Rattle.std.proofs.Common.{◌≡◌, ◌+◌, ◌-◌, ◌≤◌, sym, ap, ◌∙◌, arith, rules}
+use Rattle.std.proofs.Common.{◌≡◌, ◌+◌, ◌-◌, ◌≤◌}
 use Rattle.util.specs.Multiplier.{pairs, suits, first_of}
-use Rattle.util.proofs.Tries.{left, from_one, none_left, upper, lower, both-fail}
+use Rattle.util.proofs.Tries.{left}
 use Rattle.util.proofs.around.Given as goal
 
 abbrev pub invariant-loop-d : goal.invariant-loop-d

@@ -1,7 +1,7 @@
 -- `util::crc16` meets its contract. The invariant: what is left of the bits takes the register to the CRC of all of them.
 -- The measure is what is left of the length. Assumes nothing.
-use Rattle.std.proofs.Common.{◌≡◌, ℕ, ◌+◌, ◌-◌, ◌<◌, ◌≤◌, List, length, get_or, drop, sym, refl, ap, ◌∙◌, add-one, arith, drop_of_length-le, drop-cons, rules}
-use Rattle.util.specs.Crc.{crc_step, crc_of}
+use Rattle.std.proofs.Common.{◌≡◌, ◌-◌, ◌≤◌, length, drop}
+use Rattle.util.specs.Crc.{crc_of}
 use Rattle.util.proofs.crc16.Given as goal
 
 abbrev pub invariant-loop-i : goal.invariant-loop-i

@@ -1,6 +1,6 @@
 -- `util::mult` meets its contract: each return by the tests that led there, and a multiplier that is searched for lies below n.
 -- Assumes nothing.
-use Rattle.std.proofs.Common.{◌≡◌, ℕ, ◌<◌, ◌≤◌, sym, ap, ◌∙◌, arith, rules, le-leb}
+use Rattle.std.proofs.Common.{◌≡◌, ℕ, ◌<◌, ◌≤◌, sym, ap, ◌∙◌, arith, le-leb}
 use Rattle.util.specs.Multiplier.{pairs, suits, first_of, mult_of}
 use Rattle.util.proofs.Tries.{start-below, at-start, past-start}
 use Rattle.util.proofs.Found.{found}

@@ -1,5 +1,5 @@
 -- `util::suitable` meets its contract: each return by the tests that led there. Assumes nothing.
-use Rattle.std.proofs.Common.{ℕ, eqb, ap, arith, rules, le-ltb, lt-ltb}
+use Rattle.std.proofs.Common.{ℕ, eqb, ap, arith, le-ltb, lt-ltb}
 use Rattle.util.specs.Factor.{coprime}
 use Rattle.util.specs.Multiplier.{suits}
 use Rattle.util.proofs.suitable.Goals as goal

@@ -1,6 +1,6 @@
 -- `util::wrapping_mul_u64` meets its contract: no product of halves wraps, and `product` joins them. Assumes nothing.
-use Rattle.std.proofs.Common.{◌/◌, ◌%◌, ◌∙◌, arith, rules}
-use Rattle.util.proofs.Halves.{product, below}
+use Rattle.std.proofs.Common.{◌∙◌}
+use Rattle.util.proofs.Halves.{product}
 use Rattle.util.proofs.wrapping_mul_u64.Goals as goal
 
 pub returns : goal.returns
