@@ -8,14 +8,14 @@ ghost use Rattle.blocks.specs.Inside.{nothing, push_of, Gathers};
 ghost use Rattle.util.specs.Choose.{choose};
 
 // Twice a block's place, and its timing.
-#[derive(Drop)]
+#[derive(Clone, Copy)]
 pub struct Block {
     pub place2: u32,
     pub timing: f64,
 }
 
 // Blocks as plain lists, with the last place, the greatest, and whether all are in range.
-#[derive(Drop)]
+#[derive(Clone, Copy)]
 pub struct Gathered {
     pub places: [f64; 64],
     pub timings: [f64; 64],

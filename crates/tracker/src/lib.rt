@@ -9,7 +9,7 @@ ghost use Rattle.tracker.specs.Inside.{rule_with, answer_in, Readable};
 use blocks::Gathered;
 
 // One symbol: early energy, late energy and noise, or nothing.
-#[derive(Drop)]
+#[derive(Clone, Copy)]
 pub enum Sample {
     Heard(f64, f64, f64),
     Missed,
@@ -23,7 +23,7 @@ pub enum Tracked {
 }
 
 // What is kept of a burst between its symbols; its two lists lie beside it.
-#[derive(Drop)]
+#[derive(Clone, Copy)]
 pub struct Tracker {
     pub n: usize,
     pub shift: i32,
