@@ -1,5 +1,4 @@
 -- Laws of this crate's definitions, for its own proofs and its callers'.
-pub mod Memory
 pub mod Gathering
 pub mod Same
 pub mod Lists

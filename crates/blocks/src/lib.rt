@@ -1,5 +1,7 @@
 // A burst's blocks: what is kept of each, whether a list of them is in range, and the list by value (`Gathered`), which the fit and the
 // tracker read. Definitions in specs/.
+#![tactic(auto)]
+
 ghost use Rattle.std.specs.Prelude.{◌≡◌, ◌≤◌, ◌<◌, length, set, leb, ltb, ◌&&◌};
 ghost use Rattle.blocks.specs.Doubles.{as_f64, within};
 ghost use Rattle.blocks.specs.Blocks.{half};
