@@ -1,5 +1,7 @@
 // The log-sum of two, ln(e^a + e^b), by document 01's stand-ins for exp and ln_1p (phy_mfsk/util.rs, `lse`). Definitions
 // in specs/.
+#![tactic(auto)]
+
 ghost use Rattle.std.specs.Prelude.{◌≡◌};
 ghost use Rattle.lse.specs.Lse.{exp_of, ln1p_of, lse_of};
 

@@ -4,7 +4,7 @@ use mathlib.Core.Bool.{not}
 use mathlib.Core.Path.{◌≡◌, ap, subst₂}
 use native.Mathlib.Nat.{add_comm, mul_comm, lt_irrefl, lt_trans}
 use lib.Dec.{T, not_T}
-use lib.Ieee.{Float, binary32, lt, le}
+use lib.Ieee.{Float, binary32, lt}
 use lib.Ieee.Positive.{num, den, positive-finite}
 use Rattle.ieee.proofs.Order.{not-lt→le, le-le→eq, finite-not-nan, positive-le, positive-plain}
 use Rattle.ieee.proofs.Values.{equal}

@@ -1,5 +1,7 @@
 // Square roots of the counts 1 to 52, to the nearest f32 as IEEE 754 has it, worked out in whole numbers
 // (phy_mfsk/rx/model.rs takes the machine's). Definitions in specs/.
+#![tactic(auto)]
+
 ghost use Rattle.std.specs.Prelude.{◌≡◌, ◌^◌, ◌≤◌};
 ghost use Rattle.root.specs.Root.{whole_root, root_of};
 

@@ -3,12 +3,8 @@ use mathlib.Core.Path.{refl}
 use lib.Ieee.{of_bits}
 use Rattle.ieee.specs.Whole.{run}
 use Rattle.lse.specs.Lse.{float32, ln_step, ln_from, ln1p_of}
-use Rattle.lse.proofs.ln_1p.Statement.{statement}
-use Rattle.lse.proofs.ln_1p.Tie as tie
+use Rattle.lse.proofs.ln_1p.Goals as goal
 
-returns : tie.Need-returns
+pub returns : goal.returns
 unfolding ln1p_of ln_from ln_step run float32 of_bits
 returns c = refl
-
-pub ln-1p-spec : {M : Type 1} → statement M
-ln-1p-spec = tie.close (tie.spec returns)
