@@ -1,5 +1,7 @@
 // The drift of a burst from its blocks: a least-squares line, shrunk and held (`fit_drift` of phy_mfsk/rx/data.rs), a public entry.
 // The blocks that it reads are crate `blocks`. Definitions in specs/.
+#![tactic(auto)]
+
 ghost use Rattle.std.specs.Prelude.{◌≡◌, ◌≤◌, ◌<◌, get_or, leb, ◌&&◌};
 ghost use Rattle.std.specs.Float.{nan};
 ghost use Rattle.ieee.specs.Within.{larger, clamp};
