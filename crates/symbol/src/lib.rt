@@ -1,5 +1,7 @@
 // What is made of the 32 values of one symbol: whether it is erased, its metrics out, its log-sums and soft bits
 // (phy_mfsk/rx/data.rs, in the second half of `service_burst`). Definitions in specs/.
+#![tactic(auto)]
+
 ghost use Rattle.std.specs.Prelude.{◌≡◌, true, ◌+◌, ◌*◌, ◌≤◌, ◌<◌, length, get_or};
 ghost use Rattle.std.specs.Float.{nan};
 ghost use Rattle.util.specs.Table.{Stored};

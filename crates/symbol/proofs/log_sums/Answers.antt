@@ -1,0 +1,12 @@
+-- `symbol::log_sums` meets its contract. The invariant: the log-sums of those passed. The measure is what is left of the 32.
+-- Assumes nothing.
+use mathlib.Core.Path.{refl}
+use native.Mathlib.Omega.{arith}
+use lib.Ieee.{of_bits, neg, div}
+use Rattle.symbol.proofs.Sums.{summed-none}
+use Rattle.symbol.specs.Symbol.{log_sum}
+use Rattle.symbol.proofs.log_sums.Goals as goal
+
+pub loop-v-init : goal.loop-v-init
+unfolding log_sum of_bits neg div
+loop-v-init c = (omega arith, summed-none _ _ _ refl)
