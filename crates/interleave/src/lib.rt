@@ -1,6 +1,8 @@
 // Both interleavers (phy_mfsk/frame.rs): the two scramblers; the receiving halves, which put what was heard slot by
 // slot back in the order of data bits, or of code symbols; and the sending halves, two public entries. Definitions in
 // specs/.
+#![tactic(auto)]
+
 ghost use Rattle.std.specs.Prelude.{◌≡◌, ◌+◌, ◌*◌, ◌%◌, ◌≤◌, ◌<◌, eqb, length, get_or, replicate};
 ghost use Rattle.std.specs.Float.{nan};
 ghost use Rattle.std.specs.Float.Ieee.{neg};
