@@ -1,6 +1,8 @@
 // Recorded answers, the Rust's and where it has none a second model's, which oracle/record.rs writes: 17 bytes a
 // record, what was asked, its argument and the answer, both with the lowest byte first. The programs that replay them
 // read and count them here.
+#![tactic(auto)]
+
 ghost use Rattle.std.specs.Prelude.{◌+◌, ◌/◌, ◌≤◌, ◌<◌, length, ◌≡◌};
 
 const SIZE: usize = 17;

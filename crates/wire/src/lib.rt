@@ -1,5 +1,7 @@
 // Numbers in bytes, the highest byte first, and an f32 by the pattern of its bits: what slips are written with (document 02,
 // #103). Definitions in specs/.
+#![tactic(auto)]
+
 ghost use Rattle.std.specs.Prelude.{◌+◌, ◌^◌, ◌≤◌, ◌<◌, ◌≡◌, ◌++◌, length, take};
 ghost use Rattle.std.specs.Float.{binary32};
 ghost use Rattle.std.specs.Float.Ieee.{of_bits};

@@ -1,17 +1,15 @@
 -- `wire::put` meets its contract. The invariant: the bytes still to write and those written behind them are the number's. The
 -- measure is how many are still to write. Assumes nothing.
 use Prim.Native.Nat.{ℕ, zero, suc, ◌+◌, ◌-◌, ◌/◌, ◌%◌, ◌≤◌, ◌<◌}
-use mathlib.Core.List.{List, ◌∷◌, ◌++◌, append-nil}
+use mathlib.Core.List.{List, ◌∷◌, ◌++◌}
 use mathlib.Core.Path.{◌≡◌, refl, sym, ap, ap₂, ◌∙◌}
 use native.Mathlib.Nat.{add-zero, add-suc, not-suc-le-zero, le_refl}
 use native.Mathlib.Numerals.{sub-one}
 use native.Mathlib.Omega.{arith}
 use lib.ListN.{length, take, drop, set, length-set, take-append-drop}
-use lib.Seq.{slice, slice_empty, slice-cons, get_or-set_same, take-set-le, take-set-lt, drop-set-lt, append_snoc, take-take}
-use borrow.Author.Rules.{rules}
+use lib.Seq.{slice, slice-cons, get_or-set_same, take-set-le, take-set-lt, drop-set-lt, append_snoc, take-take}
 use Rattle.wire.specs.Bytes.{big}
-use Rattle.wire.proofs.put.Statement.{statement}
-use Rattle.wire.proofs.put.Tie as tie
+use Rattle.wire.proofs.put.Goals as goal
 
 -- after a store at j the part from j on begins with what was stored
 stored : (l : List ℕ) (j to b : ℕ) → j < to → to ≤ length l → slice j to (set l j b) ≡ b ∷ slice (suc j) to l
@@ -38,57 +36,20 @@ parts at width l =
     sym (take-append-drop at (take (at + width) l))
     ∙ ap₂ (λ (p : List ℕ) (n : ℕ). p ++ slice n (at + width) l) (take-take at (at + width) l (omega arith)) (sym (add-zero at))
 
-abbrev invariant-loop : tie.invariant-loop
-invariant-loop out₀ at width value i₀ rest₀ out i rest =
-    (length out ≡ length out₀) × (i ≤ width) × (take at out ≡ take at out₀) × (big i rest ++ slice (at + i) (at + width) out ≡ big width value)
-
-abbrev decreases-loop : tie.decreases-loop
-decreases-loop out₀ at width value i₀ rest₀ out i rest = i
-
-loop-holds : tie.Need-loop-init invariant-loop decreases-loop
-loop-holds c =
-    let a = c.args in
-    let all = big a.width a.value in
-    (refl, le_refl a.width, refl, ap (λ (l : List ℕ). all ++ l) (slice_empty (a.at + a.width) a.out.now) ∙ append-nil all)
-
-sub-i : tie.Need-overflow-sub-i invariant-loop decreases-loop
-sub-i c = omega arith
-
-cast-out : tie.Need-overflow-cast-out invariant-loop decreases-loop
-cast-out c = omega arith
-
-add-out : tie.Need-overflow-add-out invariant-loop decreases-loop
-add-out c = search rules
-
-slice-write-out : tie.Need-slice-write-out invariant-loop decreases-loop
-slice-write-out c = omega arith
-
-loop-less : tie.Need-loop-smaller invariant-loop decreases-loop
-loop-less c = omega arith
-
-loop-again : tie.Need-loop-preserved invariant-loop decreases-loop
-loop-again c =
-    let l = c.before.loop in
-    let a = c.before.before.args in (
+pub loop-i-preserved : goal.loop-i-preserved
+loop-i-preserved c =
+    let l = c.loop-i in
+    let a = c.args in (
       simp length-set l.invariant.0,
       omega arith,
       take-set-le a.at l.out (a.at + (l.i - 1)) _ (omega arith) ∙ l.invariant.2,
-      turn l.out a.at l.i a.width l.rest _ c.loop-test.true l.invariant.1 (omega arith) refl ∙ l.invariant.3,
+      turn l.out a.at l.i a.width l.rest _ c.loop-i-test.true l.invariant.1 (omega arith) refl ∙ l.invariant.3,
     )
 
-same_length : tie.Need-same-length invariant-loop decreases-loop
-same_length c = omega arith
-
-returns : tie.Need-returns invariant-loop decreases-loop
+pub returns-clause-bytes : goal.returns-clause-bytes
 unfolding big
-returns c =
-    let l = c.before.loop in
-    let a = c.before.before.args in
-    let none : 0 ≡ l.i = omega arith in (
-      l.invariant.0,
-      parts a.at a.width l.out
-          ∙ ap₂ ◌++◌ l.invariant.2 (ap (λ (i : ℕ). big i l.rest ++ slice (a.at + i) (a.at + a.width) l.out) none ∙ l.invariant.3),
-    )
-
-pub put_spec : {M : Type 1} → statement M
-put_spec = tie.close (tie.spec invariant-loop decreases-loop loop-holds sub-i cast-out add-out slice-write-out loop-less loop-again same_length returns)
+returns-clause-bytes c =
+    let l = c.loop-i in
+    let a = c.args in
+    let none : 0 ≡ l.i = omega arith in parts a.at a.width l.out
+    ∙ ap₂ ◌++◌ l.invariant.2 (ap (λ (i : ℕ). big i l.rest ++ slice (a.at + i) (a.at + a.width) l.out) none ∙ l.invariant.3)

@@ -6,9 +6,7 @@ use lib.Dec.{T}
 use lib.Ieee.{Float, nan, inf, fin, binary32, is_nan, nan_bits, of_bits, div}
 use lib.Ieee.Bits.{nan_bits_above, nan_bits_is}
 use borrow.Author.Tests.{le-ltb, lt-ltb}
-use borrow.Author.Rules.{rules}
-use Rattle.wire.proofs.float_of.Statement.{statement}
-use Rattle.wire.proofs.float_of.Tie as tie
+use Rattle.wire.proofs.float_of.Goals as goal
 
 is-nan : (x : Float) → is_nan x ≡ true → x ≡ nan
 unfolding is_nan
@@ -26,14 +24,8 @@ above n h = nan_bits_above binary32 n ∙ lt-ltb _ _ h
 within : (n : ℕ) → n % 2147483648 ≤ 2139095040 → nan_bits binary32 n ≡ false
 within n h = nan_bits_above binary32 n ∙ le-ltb _ _ h
 
-returns : tie.Need-returns
-returns c = none ∙ sym (is-nan _ (sym (nan_bits_is binary32 c.before.args.pattern) ∙ above c.before.args.pattern c.if1.true))
+pub returns-then-pattern-gt2139095040 : goal.returns-then-pattern-gt2139095040
+returns-then-pattern-gt2139095040 c = none ∙ sym (is-nan _ (sym (nan_bits_is binary32 c.args.pattern) ∙ above c.args.pattern c.if-pattern-gt2139095040.true))
 
-float-from-bits-result : tie.Need-float-from-bits-result
-float-from-bits-result c = subst (λ (b : Bool). T (not b)) (sym (within c.before.args.pattern c.if1.false)) tt
-
-returns-2 : tie.Need-returns-2
-returns-2 c = search rules
-
-pub float-of-spec : {M : Type 1} → statement M
-float-of-spec = tie.close (tie.spec returns float-from-bits-result returns-2)
+pub float_from_bits-result : goal.float_from_bits-result
+float_from_bits-result c = subst (λ (b : Bool). T (not b)) (sym (within c.args.pattern c.if-pattern-gt2139095040.false)) tt
