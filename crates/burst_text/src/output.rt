@@ -1,27 +1,47 @@
 // Text for standard output by way of a lent block, which goes out when it is full: whole blocks, and not a write a line.
-use libc::{STDERR_FILENO, STDOUT_FILENO};
+use std::io::{Error, Print, Stdout};
 
-// How many bytes of the block wait to go out, and whether a write failed.
-#[derive(Drop)]
+const STDERR: i32 = 2;
+
+// How many bytes of the block wait to go out, where a full block goes, and why a write failed.
+#[derive(Clone, Copy)]
 pub struct Waiting {
     pub bytes: usize,
-    pub failed: bool,
+    pub failed: Option<Error>,
+    // none where the text is to be told on standard error
+    pub to: Option<Stdout>,
 }
 
-// Inside: an empty block.
+// Inside: an empty block for standard error (`tell`).
 pub fn nothing() -> Waiting {
     Waiting {
         bytes: 0,
-        failed: false,
+        failed: None,
+        to: None,
     }
 }
 
-// Whether a write has failed once these bytes are out. None is tried after the first that fails.
-fn fails(before: bool, s: &[u8]) -> bool {
-    if before {
-        return true;
+// Inside: an empty block for standard output (`finish`).
+pub fn nothing_for(to: Stdout) -> Waiting {
+    Waiting {
+        bytes: 0,
+        failed: None,
+        to: Some(to),
     }
-    !io::write_all(STDOUT_FILENO, s)
+}
+
+// Why a write has failed once these bytes are out. None is tried after the first that fails.
+fn failure(out: Waiting, s: &[u8]) -> Option<Error> {
+    if out.failed.is_some() {
+        return out.failed;
+    }
+    match out.to {
+        Some(to) => Print::write_all(&to, s).err(),
+        None => {
+            io::write_all(STDERR, s);
+            None
+        }
+    }
 }
 
 fn byte(block: &mut [u8], out: Waiting, b: u8) -> Waiting {
@@ -31,13 +51,18 @@ fn byte(block: &mut [u8], out: Waiting, b: u8) -> Waiting {
         return Waiting {
             bytes: n + 1,
             failed: out.failed,
+            to: out.to,
         };
     }
-    let failed = fails(out.failed, block);
+    let failed = failure(out, block);
     if block.len() > 0 {
         block[0] = b;
     }
-    Waiting { bytes: 1, failed }
+    Waiting {
+        bytes: 1,
+        failed,
+        to: out.to,
+    }
 }
 
 // Inside: a text, byte by byte.
@@ -69,21 +94,20 @@ pub fn hex(block: &mut [u8], out: Waiting, n: u64, width: usize) -> Waiting {
     text(block, out, &digits[..k])
 }
 
-// Inside: what still waits goes out. Where a write has failed, why it did is told after `what`: no call is made after it, so
-// errno is still the write's.
+// Inside: what still waits goes out. Where a write has failed, why it did is told after `what`.
 pub fn finish(block: &[u8], out: Waiting, what: &[u8]) {
     let n = out.bytes;
     if n <= block.len() {
-        if fails(out.failed, &block[..n]) {
-            os::fail(what);
+        if let Some(error) = failure(out, &block[..n]) {
+            say::fail(what, &error);
         }
     }
 }
 
-// Inside: what waits, on standard error. The block is to hold it all: a full one goes to standard output.
+// Inside: what waits, on standard error.
 pub fn tell(block: &[u8], out: Waiting) {
     let n = out.bytes;
     if n <= block.len() {
-        io::write_all(STDERR_FILENO, &block[..n]);
+        io::write_all(STDERR, &block[..n]);
     }
 }

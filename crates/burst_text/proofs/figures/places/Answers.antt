@@ -1,0 +1,12 @@
+-- `burst_text::figures::places` is safe: the two tests are what the cut to a whole number asks, once the patterns are unfolded. Assumes nothing.
+use Rattle.std.proofs.Common.{T, sym, subst}
+use lib.Ieee.{of_bits, neg}
+use Rattle.burst_text.proofs.figures.places.Goals as goal
+
+pub truncating_f64_to_u64-requires-clause-lower_bound : goal.truncating_f64_to_u64-requires-clause-lower_bound
+unfolding of_bits neg
+truncating_f64_to_u64-requires-clause-lower_bound c = subst T (sym c.if-rounded.true) tt
+
+pub truncating_f64_to_u64-requires-clause-upper_bound : goal.truncating_f64_to_u64-requires-clause-upper_bound
+unfolding of_bits neg
+truncating_f64_to_u64-requires-clause-upper_bound c = subst T (sym c.if-rounded-2.true) tt
