@@ -1,4 +1,6 @@
 // The lines that the program `burst` prints of a burst (docs/BURST-FORMAT.md).
+#![tactic(auto)]
+
 use burst_text::figures::float;
 use burst_text::output::{Waiting, counted, hex, text};
 
