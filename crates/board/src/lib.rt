@@ -11,7 +11,7 @@ ghost use Rattle.board.specs.Rules.{reading_first, rank_of};
 ghost use Rattle.board.specs.Putting.{put_is, putting, replaced, inserted, board_after, count_after};
 
 // The slip was put, or judged and not taken; or the refusal's number.
-#[derive(Drop)]
+#[derive(Clone, Copy)]
 pub enum Put {
     Done,
     Refused(u8),

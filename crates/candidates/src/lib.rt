@@ -9,14 +9,14 @@ ghost use Rattle.candidates.specs.Best.{best_is, held_is, Inside};
 ghost use Rattle.candidates.specs.Scan.{considered, scanned};
 
 // The best candidate of the passes so far, with its word: a later pass overwrites the decisions.
-#[derive(Drop)]
+#[derive(Clone, Copy)]
 pub enum Best {
     Nothing,
     Word(u64, f32),
 }
 
 // The best one within a pass: still that of the passes before, or a state of this one with its gain.
-#[derive(Drop)]
+#[derive(Clone, Copy)]
 enum Held {
     Earlier(Best),
     State(usize, f32),

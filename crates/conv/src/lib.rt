@@ -58,7 +58,7 @@ fn encode(kind: u8, bits: &[u8], values: &mut [u8])
 }
 
 // Done, or the refusal's number.
-#[derive(Drop)]
+#[derive(Clone, Copy)]
 pub enum Sent {
     Done,
     Refused(u8),

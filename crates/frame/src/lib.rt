@@ -8,11 +8,11 @@ ghost use Rattle.frame.specs.Air.{hop_of, bin_of, place_of, slot_of};
 ghost use Rattle.frame.specs.Crc.{base_start, mask_of, start_of, some_above, some_above_one, meaning, crc_answer};
 
 // 28 ms symbols on a 50 Hz grid.
-#[derive(Drop)]
+#[derive(Clone, Copy)]
 pub struct R0;
 
 // 14 ms symbols on a 71.4 Hz grid.
-#[derive(Drop)]
+#[derive(Clone, Copy)]
 pub struct R1;
 
 impl R0 {
@@ -226,7 +226,7 @@ pub fn some_above_one(bits: &[u8]) -> bool
 }
 
 // The CRC, or the refusal's number.
-#[derive(Drop)]
+#[derive(Clone, Copy)]
 pub enum Crc16 {
     Value(u16),
     Refused(u8),

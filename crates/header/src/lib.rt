@@ -12,7 +12,7 @@ use outcome::Outcome;
 
 // The word has header bit j at place j from the lowest, and zeros above the last. The ceiling is the least, over the
 // passes run, of the greatest gain of a state, its end score less its start score (document 02, #106).
-#[derive(Drop)]
+#[derive(Clone, Copy)]
 pub struct HeaderAnswer {
     pub word: u64,
     pub outcome: Outcome,
@@ -20,7 +20,7 @@ pub struct HeaderAnswer {
 }
 
 // The answer, or the refusal's number.
-#[derive(Drop)]
+#[derive(Clone, Copy)]
 pub enum HeaderRead {
     Answer(HeaderAnswer),
     Refused(u8),

@@ -135,7 +135,7 @@ fn fill(table: &mut [u16])
 }
 
 // Done, or the refusal's number.
-#[derive(Drop)]
+#[derive(Clone, Copy)]
 pub enum Filled {
     Done,
     Refused(u8),

@@ -11,7 +11,7 @@ ghost use Rattle.outcome.specs.Numbers.{outcome_number, pass_number, outcome_at}
 // How sure the word is (document 02, #107); each carries the word's score. A word that is out by closing, or is the best candidate
 // after three passes, is Sure where its score is at or above the ceiling, with the last pass run. Below it the one is Likely, with
 // its pass (2 or 3), and the other Kept. Open is the last unclosed word.
-#[derive(Drop)]
+#[derive(Clone, Copy)]
 pub enum Outcome {
     Sure(f32, u8),
     Likely(f32, u8),
@@ -58,7 +58,7 @@ pub fn outcome_of(how: search::How, score: f32, ceiling: f32) -> Outcome
 }
 
 // 0 Sure, 1 Kept, 2 Open, 3 Likely; the pass of a Sure or a Likely, else 0; the score.
-#[derive(Drop)]
+#[derive(Clone, Copy)]
 pub struct Numbers {
     pub outcome: u8,
     pub pass: u8,

@@ -54,7 +54,7 @@ pub fn clear_decisions(area: &mut [u64])
 
 // What a pass found from its end state: the word and its score, whether it closes, and the best score. Beside them the
 // pass's top, the greatest gain of any state (document 02, #106).
-#[derive(Drop)]
+#[derive(Clone, Copy)]
 struct Traceback {
     word: u64,
     score: f32,
@@ -104,7 +104,7 @@ fn run(
 }
 
 // How a word came out: by closing in a pass (1 to 3), as the best candidate, or unclosed.
-#[derive(Drop)]
+#[derive(Clone, Copy)]
 pub enum How {
     Closing(u8),
     Candidate,
@@ -112,7 +112,7 @@ pub enum How {
 }
 
 // What the search found, and its ceiling.
-#[derive(Drop)]
+#[derive(Clone, Copy)]
 pub struct Found {
     pub how: How,
     pub word: u64,

@@ -11,7 +11,7 @@ ghost use Rattle.slip.specs.Lawful.{pass_goes, lawful};
 ghost use Rattle.slip.specs.Slips.{fields_of, written_is, writing, written, taken, fields_is, slip_is, reading, Reads};
 
 // What the shed computer is told of a burst: its header as read, the sample at which it starts, and its segment's number.
-#[derive(Drop)]
+#[derive(Clone, Copy)]
 pub struct Slip {
     pub mode: u8,
     pub kind: u8,
@@ -22,7 +22,7 @@ pub struct Slip {
 }
 
 // The same as the numbers that a slip holds: 0 Sure, 1 Kept, 2 Open, 3 Likely; the pass of a Sure or a Likely, else 0.
-#[derive(Drop)]
+#[derive(Clone, Copy)]
 pub struct Fields {
     pub mode: u8,
     pub kind: u8,
@@ -35,21 +35,21 @@ pub struct Fields {
 }
 
 // The slip is written, or the refusal's number.
-#[derive(Drop)]
+#[derive(Clone, Copy)]
 pub enum Written {
     Done,
     Refused(u8),
 }
 
 // The slip, or the refusal's number.
-#[derive(Drop)]
+#[derive(Clone, Copy)]
 pub enum SlipRead {
     Good(Slip),
     Refused(u8),
 }
 
 // Its numbers, or the refusal's number.
-#[derive(Drop)]
+#[derive(Clone, Copy)]
 pub enum FieldsRead {
     Good(Fields),
     Refused(u8),

@@ -1,5 +1,7 @@
 // The traceback over a pass's survivors, and the candidates of a pass: end states whose own traceback closes (fec/conv.rs:
 // `traceback`, and the loop over the states in `decode_tb`). The passes one after another are crate `search`.
+#![tactic(auto)]
+
 ghost use Rattle.std.specs.Prelude.{◌≡◌, ◌*◌, ◌<◌, ◌≤◌, length};
 ghost use Rattle.trellis.specs.Numbers.{single};
 ghost use Rattle.trellis.specs.Search.{trace_start, trace_word};
@@ -9,7 +11,7 @@ ghost use Rattle.traceback.specs.Scan.{considered, scanned};
 ghost use Rattle.traceback.specs.Best.{best_is};
 
 // What a traceback gives: its word, and the state that it reaches.
-#[derive(Drop)]
+#[derive(Clone, Copy)]
 pub struct Traced {
     pub word: u64,
     pub start: usize,
@@ -37,7 +39,7 @@ pub fn trace(decisions: &[u64], steps: usize, end: usize) -> Traced
 }
 
 // The best candidate of the passes so far, with its word: a later pass overwrites the decisions.
-#[derive(Drop)]
+#[derive(Clone, Copy)]
 pub enum Best {
     Nothing,
     Word(u64, f32),

@@ -149,7 +149,7 @@ pub fn mult(n: u64) -> u64
 }
 
 // The multiplier, or the refusal's number.
-#[derive(Drop)]
+#[derive(Clone, Copy)]
 pub enum Multiplier {
     Factor(u64),
     Refused(u8),
