@@ -1,7 +1,6 @@
 -- Laws of this crate's definitions, for its own proofs and its callers'.
 pub mod Further
 pub mod Signs
-pub mod Words
 pub mod Accepted
 pub mod Answers
 pub mod Refused

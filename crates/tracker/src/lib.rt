@@ -1,5 +1,7 @@
 // The tracker of a burst's timing (phy_mfsk/rx/data.rs): what is kept between symbols, its rule, and when a call is refused.
 // The fresh tracker is a public entry. Definitions in specs/.
+#![tactic(auto)]
+
 ghost use Rattle.std.specs.Prelude.{◌≡◌, ◌-◌, ◌*◌, ◌≤◌, length, get_or, leb, eqb, pos, not, ◌&&◌, ◌||◌};
 ghost use Rattle.util.specs.Every.{every};
 ghost use Rattle.tracker.specs.Rule.{fresh_of, block_length, waiting, in_whole_blocks, count_kept, drift_kept, sums_kept, shift_kept};
