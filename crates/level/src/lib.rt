@@ -1,5 +1,7 @@
 // A row of energies (phy_mfsk/rx/model.rs, the first two steps of `local_noise`): in units of the noise, without the bins
 // around its strongest tone, and its level, by the median of the bins that are left. Definitions in specs/.
+#![tactic(auto)]
+
 ghost use Rattle.std.specs.Prelude.{◌≡◌, not, ◌&&◌, ◌||◌, ℕ, ◌+◌, ◌*◌, ◌≤◌, ◌<◌, eqb, length, get_or};
 ghost use Rattle.std.specs.Float.{nan};
 ghost use Rattle.std.specs.Float.Ieee.{lt, le};

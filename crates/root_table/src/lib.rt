@@ -1,5 +1,7 @@
 // The table of the square roots of the counts 1 to 52 (document 02, #109): local noise takes its roots from here and from nowhere else.
 // Definitions in specs/; crate `root` works each one out anew, without this table.
+#![tactic(auto)]
+
 ghost use Rattle.std.specs.Prelude.{◌≡◌};
 ghost use Rattle.root_table.specs.Table.{roots_of, NearestRoots};
 

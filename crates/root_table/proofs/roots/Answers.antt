@@ -3,14 +3,16 @@ use mathlib.Core.Path.{refl}
 use lib.Ieee.{fits, of_bits}
 use Rattle.root.proofs.Nearest.{up_to}
 use Rattle.root_table.proofs.Entries.{all-nearest, worked-out}
-use Rattle.root_table.proofs.roots.Statement.{statement}
-use Rattle.root_table.proofs.roots.Tie as tie
+use Rattle.root_table.proofs.roots.Goals as goal
 
-returns : tie.Need-returns
+pub returns-clause-nearest : goal.returns-clause-nearest
 unfolding up_to fits of_bits
-returns c =
+returns-clause-nearest c =
     let near = all-nearest _ refl tt in
-    (near, worked-out _ near)
+    near
 
-pub roots-spec : {M : Type 1} → statement M
-roots-spec = tie.close (tie.spec returns)
+pub returns-clause-worked_out : goal.returns-clause-worked_out
+unfolding up_to fits of_bits
+returns-clause-worked_out c =
+    let near = all-nearest _ refl tt in
+    worked-out _ near
