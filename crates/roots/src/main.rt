@@ -1,11 +1,13 @@
 // The program that works out the square roots of the counts 1 to 52 anew and prints them (document 02, #109). It reads nothing, and it stands
 // on no crate that has the table. Definitions in specs/.
+#![tactic(auto)]
+
 ghost use Rattle.std.specs.Prelude.{◌+◌, ◌≤◌, ◌<◌, not, ◌++◌, ◌≡◌, T, length, take};
 ghost use Rattle.std.specs.Float.Ieee.{is_nan};
 ghost use Rattle.io.specs.Counts.{IsPrefixLen};
 ghost use Rattle.roots.specs.Printed.{decimal_of, bits_of, line_of, printed};
 
-use libc::STDOUT_FILENO;
+use std::io::Print;
 
 // A text behind the `at` bytes that are there; the answer is how many there are then.
 fn append(out: &mut [u8], at: usize, s: &[u8]) -> usize
@@ -66,10 +68,10 @@ fn lines(out: &mut [u8]) -> usize
     at
 }
 
-fn main() {
+fn main(rt: HostRuntime) {
     let mut text = [0u8; 624];
     let long = lines(&mut text);
-    if !io::write_all(STDOUT_FILENO, &text[..long]) {
-        os::fail(b"roots: standard output");
+    if let Err(error) = Print::write_all(&rt, &text[..long]) {
+        say::fail(b"roots: standard output", &error);
     }
 }
