@@ -1,6 +1,8 @@
 // The header's search: a Viterbi search over a tail-biting code, wrapped around at most three times (fec/conv.rs:
 // `decode_tb`). Here are the passes one after another over lent areas; one pass is crate `pass`, its traceback and its
 // candidates are crate `traceback`. What it answers is document 01's search, as crate trellis defines it, at f32.
+#![tactic(auto)]
+
 ghost use Rattle.std.specs.Prelude.{◌≡◌, ◌*◌, ◌<◌, length, replicate, eqb};
 ghost use Rattle.std.specs.Float.Ieee.{sub};
 ghost use Rattle.std.specs.Float.{binary32};
