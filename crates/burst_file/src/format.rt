@@ -43,10 +43,10 @@ pub fn put_terms(bytes: &[u8], terms: &mut [f32], at: usize)
 }
 
 // What can be wrong with a burst file.
-#[derive(Drop)]
+#[derive(Clone, Copy)]
 pub enum Problem {
     None,
-    // a read failed, and errno says why
+    // a read failed; who read knows why
     Unreadable,
     Short,
     Long,
@@ -59,7 +59,7 @@ pub enum Problem {
 }
 
 // What the head says of the burst.
-#[derive(Drop)]
+#[derive(Clone, Copy)]
 pub struct Head {
     pub mode: u8,
     pub kind: u8,
@@ -69,7 +69,7 @@ pub struct Head {
     pub bits: u32,
 }
 
-#[derive(Drop)]
+#[derive(Clone, Copy)]
 pub enum HeadRead {
     Good(Head),
     Bad(Problem),
