@@ -1,5 +1,7 @@
 // The 25 rows around a row (phy_mfsk/rx/model.rs, the last step of `local_noise`): the rows heard last, each in its place
 // of 25, and the sum and the count of every bin over them. Definitions in specs/.
+#![tactic(auto)]
+
 ghost use Rattle.std.specs.Prelude.{◌≡◌, List, ℕ, ◌+◌, ◌*◌, ◌≤◌, ◌<◌, eqb, length, get_or, Float};
 ghost use Rattle.std.proofs.Math.Option.{none};
 ghost use Rattle.std.specs.Float.{nan, binary32};
