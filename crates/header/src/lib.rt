@@ -1,5 +1,7 @@
 // The header read: the search over its steps' metrics and lent areas, the answer, the refusals. Its promise carries demand 3, what
 // the ceiling bounds, what Sure means, and what holds for any terms. Definitions in specs/ and in crate trellis.
+#![tactic(auto)]
+
 ghost use Rattle.std.specs.Prelude.{◌≡◌, true, ◌*◌, length, replicate};
 ghost use Rattle.ieee.specs.Whole.{plus_zero};
 ghost use Rattle.frame.specs.Format.{header_bits};

@@ -1,5 +1,7 @@
 // A header's outcome: given by the way its word came, its score and the ceiling (document 02, #107); and as numbers, as the C functions
 // and the slips have it, and back. Definitions in specs/ and in crate trellis.
+#![tactic(auto)]
+
 ghost use Rattle.std.specs.Prelude.{◌≡◌};
 ghost use Rattle.trellis.specs.Answer.{outcome_of, score_in};
 ghost use Rattle.trellis.specs.Numbers.{single};
