@@ -1,5 +1,7 @@
 // What the program `burst` is given: its arguments (`arguments`) with their numbers (`decimal`), a burst file (`file`), and what
 // was wrong (`problem`).
+#![tactic(auto)]
+
 pub mod arguments;
 pub mod decimal;
 pub mod file;

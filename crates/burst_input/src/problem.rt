@@ -1,15 +1,17 @@
 // What was wrong, in a line on standard error.
 use burst_file::format::Problem;
-use libc::STDERR_FILENO;
+use std::io::Error;
+
+const STDERR: i32 = 2;
 
 fn text(s: &[u8]) {
-    io::write_all(STDERR_FILENO, s);
+    io::write_all(STDERR, s);
 }
 
 // Document 01, 'When nothing is done', and document 02, #102.
 fn refused(k: u8) {
     text(b"refused: ");
-    io::print_decimal(STDERR_FILENO, k as u64);
+    io::print_decimal(STDERR, k as u64);
     match k {
         1 => text(b", mode or kind not named\n"),
         2 => text(b", more than 10,240 data bits\n"),
@@ -21,13 +23,19 @@ fn refused(k: u8) {
     }
 }
 
-// Inside: the line of a problem; none where there is none.
-pub fn report(p: Problem) {
+fn unreadable(failed: Option<Error>) {
+    if let Some(error) = failed {
+        say::fail(b"burst: the input", &error);
+    }
+}
+
+// Inside: the line of a problem; none where there is none. `failed` is why the input cannot be read, where it cannot.
+pub fn report(p: Problem, failed: Option<Error>) {
     if let Problem::None = p {
         return;
     }
     if let Problem::Unreadable = p {
-        os::fail(b"burst: the input");
+        unreadable(failed);
         return;
     }
     text(b"burst: ");
