@@ -1,6 +1,8 @@
 // What one call of a burst's tracker makes (phy_mfsk/rx/data.rs, `track_timing`): its sums, the block that it pushes, the drift
 // and the shift that follow. The tracker and its rule are crate `tracker`, the public entry over this is crate `drift`.
 // Definitions in specs/.
+#![tactic(auto)]
+
 ghost use Rattle.std.specs.Prelude.{◌≡◌, ℕ, ◌+◌, ◌≤◌, ◌<◌, length, get_or, pos, nat_abs, ◌+ℤ◌};
 ghost use Rattle.ieee.specs.Whole.{run};
 ghost use Rattle.util.specs.Choose.{choose};
