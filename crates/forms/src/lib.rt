@@ -1,5 +1,7 @@
 // The two forms of a burst, bit form and symbol form: its metrics and its soft bits, made symbol by symbol and put back in order
 // (phy_mfsk/rx/data.rs, the second half of `service_burst`). The public entry over them is crate `soft`. Definitions in specs/.
+#![tactic(auto)]
+
 ghost use Rattle.std.specs.Prelude.{◌≡◌, true, false, ℕ, ◌+◌, ◌*◌, ◌-◌, ◌≤◌, ◌<◌, length, get_or, replicate};
 ghost use Rattle.std.specs.Float.{nan};
 ghost use Rattle.util.specs.Table.{tabled, rows};
