@@ -13,7 +13,6 @@ use lib.ListN.{get_or}
 use lib.Ieee.{Float, fin, binary64, of_int, neg, lt, le, add, div, round, is_nan, fits}
 use lib.Ieee.Bits.{is_true}
 use lib.Ieee.Fits.{sub-fits}
-use lib.Ieee.Scale.{finite}
 use denote.Floats.{passes}
 use Rattle.ieee.specs.Whole.{plus_zero, is_zero, run}
 use Rattle.ieee.specs.Within.{larger, ok_div, ok_add}

@@ -1,5 +1,4 @@
 -- Laws of this crate's definitions, for its own proofs and its callers'.
-pub mod Shared
 pub mod Called
 pub mod Unread
 pub mod Moves

@@ -1,6 +1,6 @@
 -- How far a shift moves: by 1 at a time, and only towards drift·c, which is within 137.7 samples in R0 and 69.7 in R1. So it stays within 137 and 69.
 -- Assumes nothing.
-use Prim.Native.Nat.{ℕ, zero, suc, ◌+◌, ◌≤◌}
+use Prim.Native.Nat.{ℕ, zero, suc, ◌≤◌}
 use mathlib.Core.Bool.{Bool, true, false}
 use mathlib.Core.Logic.{⊎_elim}
 use mathlib.Core.Path.{◌≡◌, refl, sym, ap, ◌∙◌, subst}

@@ -1,5 +1,7 @@
 // One call of a burst's tracker for each symbol (phy_mfsk/rx/data.rs, `track_timing`), a public entry. What a call makes is crate
 // `call`, the tracker and its rule are crate `tracker`, blocks are crate `blocks`. Definitions in specs/.
+#![tactic(auto)]
+
 ghost use Rattle.std.specs.Prelude.{◌≡◌};
 ghost use Rattle.tracker.specs.Rule.{meaning, track_answer};
 ghost use Rattle.drift.specs.Entry.{tracker_after, shifts_after, blocks_after};
