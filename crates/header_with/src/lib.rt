@@ -1,5 +1,7 @@
 // The header read with labels filled in advance (document 02, #111): the lent table is tested in every call and read in the search. Past
 // these tests it is the header read (crate header), whose promise it has. Definitions in specs/.
+#![tactic(auto)]
+
 ghost use Rattle.std.specs.Prelude.{◌≡◌};
 ghost use Rattle.ieee.specs.Whole.{plus_zero};
 ghost use Rattle.trellis.specs.Demand.{Claims};

@@ -1,6 +1,6 @@
 -- Two strings are the same where the test says so. Assumes nothing.
 use Prim.Native.Nat.{ℕ}
-use mathlib.Core.Bool.{true, false, true≢false, and-eq-true_iff}
+use mathlib.Core.Bool.{true, true≢false, and-eq-true_iff}
 use mathlib.Core.List.{List, [], ◌∷◌}
 use mathlib.Core.Path.{◌≡◌, refl, sym, ap₂, subst}
 use borrow.Author.Tests.{eqb-true, eq-eqb}

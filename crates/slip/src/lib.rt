@@ -1,5 +1,7 @@
 // Burst slips (document 02, #103, #107): a header as 44 bytes of tagged fields, with a single spelling. The writer and the reader;
 // what a slip's values are and how they are spelt is in specs/, that no two strings are one slip in proofs/Slips.antt.
+#![tactic(auto)]
+
 ghost use Rattle.std.specs.Prelude.{◌+◌, ◌*◌, ◌≤◌, ◌<◌, ◌^◌, true, ◌&&◌, ◌++◌, ◌≡◌, ltb, length, take};
 ghost use Rattle.std.specs.Float.{binary32};
 ghost use Rattle.std.specs.Float.Ieee.{fits};

@@ -3,13 +3,11 @@ use Prim.Native.Nat.{ℕ, ◌+◌}
 use mathlib.Core.List.{List, ◌++◌, append_assoc}
 use mathlib.Core.Path.{◌≡◌, sym, ap, ◌∙◌}
 use native.Mathlib.Omega.{arith}
-use borrow.Author.Rules.{rules}
 use lib.ListN.{take}
 use Rattle.wire.specs.Bytes.{big}
 use Rattle.wire.proofs.Bytes.{length-big}
 use Rattle.slip.specs.Spelling.{field}
-use Rattle.slip.proofs.put_field.Statement.{statement}
-use Rattle.slip.proofs.put_field.Tie as tie
+use Rattle.slip.proofs.put_field.Goals as goal
 
 -- three parts behind what was there
 behind : (was one two three a b v : List ℕ) → one ≡ was ++ a → two ≡ one ++ b → three ≡ two ++ v → three ≡ was ++ (a ++ b ++ v)
@@ -26,38 +24,10 @@ spelt was one two three at tag width value e f g =
     (ap (λ (n : ℕ). take n two) (sym third) ∙ f) g
     ∙ ap (λ (n : ℕ). take at was ++ (big 1 tag ++ big 2 n ++ big width value)) (sym (length-big width value))
 
-put-requires : tie.Need-put-requires
-put-requires c κs = search rules
-
-add-put : tie.Need-overflow-add-put
-add-put c = search rules
-
-put-requires-2 : tie.Need-put-requires-2
-put-requires-2 c κs = search rules
-
-add-put-2 : tie.Need-overflow-add-put-2
-add-put-2 c = search rules
-
-put-requires-3 : tie.Need-put-requires-3
-put-requires-3 c κs = search rules
-
-same_length : tie.Need-same-length
-same_length c = search rules
-
-returns : tie.Need-returns
-returns c =
-    let third = c.before.before in
-    let second = third.before.before.before.before in
-    let first = second.before.before.before.before in
-    let a = first.before.before.before.args in
-    let one = first.put.ensures in
-    let two = second.put2.ensures in
-    let three = third.put3.ensures in (
-      three.0 ∙ two.0 ∙ one.0,
-      spelt a.out.now _ _ _ a.at a.tag a.width a.value one.1 two.1 three.1,
-    )
-
-pub put-field-spec : {M : Type 1} → statement M
-put-field-spec =
-    tie.close
-    (tie.spec put-requires add-put put-requires-2 add-put-2 put-requires-3 same_length returns)
+pub returns-clause-bytes : goal.returns-clause-bytes
+returns-clause-bytes c =
+    let a = c.args in
+    let one = c.put.ensures in
+    let two = c.put-2.ensures in
+    let three = c.put-3.ensures in
+    spelt a.out.now _ _ _ a.at a.tag a.width a.value one.bytes two.bytes three.bytes

@@ -6,13 +6,12 @@ use native.Mathlib.Nat.{sub_self, le_refl, one-le-mul}
 use native.Mathlib.Omega.{arith}
 use borrow.Author.Tests.{lt-ltb, le-ltb}
 use lib.Dec.{lit<}
-use lib.Ieee.{Float, nan, inf, fin, up, down, binary32, fits, eq, sub, add, neg, sum, round, of_bits}
+use lib.Ieee.{Float, nan, inf, fin, up, down, binary32, eq, sub, add, neg, sum, round, of_bits}
 use lib.Ieee.Positive.{den_pos}
 use lib.Ieee.Scale.{finite, round_same}
 use Rattle.ieee.specs.Whole.{plus_zero}
 use Rattle.ieee.proofs.Rounds.{zero-round}
-use Rattle.slip.proofs.others_are_lawful.Statement.{statement}
-use Rattle.slip.proofs.others_are_lawful.Tie as tie
+use Rattle.slip.proofs.others_are_lawful.Goals as goal
 
 -- a sum of nothing, whatever its denominator
 nothing : (c : ℕ) → 0 < c → round binary32 false 0 c ≡ plus_zero
@@ -32,14 +31,11 @@ less-itself (fin s m e) =
     let below = one-le-mul (den_pos (fin s m e)) (den_pos (fin s m e)) in
     ap (λ (x : Float). eq x plus_zero) (cancelled s (m * up e * down e) (down e * down e) below)
 
-returns : tie.Need-returns
+pub returns : goal.returns
 returns c =
     less-itself c.args.score
     ∙ rw (
-      c.well-formed.0.1,
+      c.well_formed.0.1,
       lt-ltb c.args.start (2 ^ 64) c.ranges.start.fits,
       lt-ltb c.args.segment (2 ^ 16) c.ranges.segment.fits,
     ) (sym (and-true (finite c.args.score)))
-
-pub others-are-lawful-spec : {M : Type 1} → statement M
-others-are-lawful-spec = tie.close (tie.spec returns)
