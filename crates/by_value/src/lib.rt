@@ -1,5 +1,7 @@
 // The drift's entries for programs that hold structs by value: each lends its own copies to the entry, as document 01 has it
 // (a slice of block records, a tracker lent for each symbol), and hands them back.
+#![tactic(auto)]
+
 ghost use Rattle.std.specs.Prelude.{◌≡◌, ◌≤◌, take};
 ghost use Rattle.fit.specs.Fit.{meaning, fit_answer};
 ghost use Rattle.tracker.specs.Rule as Rule;

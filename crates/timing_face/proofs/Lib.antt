@@ -1,3 +1,2 @@
 -- Laws for this crate's own proofs.
 mod Lists
-mod Faces

@@ -1,6 +1,8 @@
 // A burst's timing as C calls it, the fit and the tracker: a tracker's fields as six places, a block's in two lists of
 // one length, a sample as four numbers, and the answer as a number. The entries themselves are crates `fit` and
 // `drift`. Definitions in specs/.
+#![tactic(auto)]
+
 ghost use Rattle.std.specs.Prelude.{◌≡◌, length};
 ghost use Rattle.util.specs.Choose.{choose};
 ghost use Rattle.util.specs.Refusal.{number, place, itself};

@@ -1,2 +1,0 @@
--- Laws for this crate's own proofs.
-mod Lends
