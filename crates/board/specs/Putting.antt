@@ -1,6 +1,6 @@
 -- Document 02, #105: a slip put on a board, with the refusals; on bytes. All but `board_after` and what it stands on is the same under
 -- every rule.
-use Rattle.std.specs.Prelude.{ℕ, suc, ◌+◌, ◌-◌, ◌*◌, not, ◌&&◌, List, [], ◌∷◌, ◌++◌, eqb, length, take, drop}
+use Rattle.std.specs.Prelude.{ℕ, suc, ◌-◌, ◌*◌, not, ◌&&◌, List, [], ◌∷◌, ◌++◌, eqb, length, take, drop}
 use Rattle.util.specs.Choose.{choose}
 use Rattle.util.specs.Refusal.{Cause, Outcome, refused, accepted, outcome, afterwards}
 use Rattle.slip.specs.Slips.{taken, is_slip}

@@ -1,6 +1,8 @@
 // The segment board (document 02, #105, #107, #110): one slip a segment, segments rising, over 512 lent places of 44 bytes with a count.
 // What a put leaves and refuses is in specs/Putting.antt, what a board shows after any series of slips in specs/Series.antt (`After`, proved
 // in proofs/Series.antt under any rule, in proofs/Yard.antt under the one that is in force).
+#![tactic(auto)]
+
 ghost use Rattle.std.specs.Prelude.{suc, ◌-◌, ◌*◌, ◌^◌, ◌≤◌, ◌<◌, true, ◌&&◌, ◌++◌, ◌≡◌, leb, length, take};
 ghost use Rattle.util.specs.Choose.{choose};
 ghost use Rattle.outcome.specs.Outcome.{outcome_is};

@@ -4,7 +4,7 @@ use mathlib.Core.Bool.{true}
 use mathlib.Core.List.{List}
 use mathlib.Core.Path.{◌≡◌, refl, sym, ap, ◌∙◌, subst}
 use lib.Ieee.{Float}
-use Rattle.util.specs.Refusal.{Cause, Outcome, refused, accepted, outcome}
+use Rattle.util.specs.Refusal.{Cause, Outcome, refused, outcome}
 use Rattle.util.proofs.Number.{numbered, not-zero}
 use Rattle.ieee.specs.Whole.{plus_zero}
 use Rattle.trellis.specs.Answer as Answer

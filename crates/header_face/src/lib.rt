@@ -1,6 +1,8 @@
 // The faces to C of the header read, by parity and with labels filled in advance, and of the table's filling: the answer in five places,
 // written only where it is not refused, and its number. The entries themselves are crates `header`, `header_with` and `labels`.
 // Definitions in specs/.
+#![tactic(auto)]
+
 ghost use Rattle.std.specs.Prelude.{◌≡◌, length};
 ghost use Rattle.util.specs.Refusal.{number};
 ghost use Rattle.labels.specs.Labels.{fill_answer, table_after};

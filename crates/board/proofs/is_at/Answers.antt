@@ -4,15 +4,13 @@ use mathlib.Core.Bool.{Bool, true, false, ◌&&◌}
 use mathlib.Core.List.{List, []}
 use mathlib.Core.Path.{◌≡◌, sym, ap, ap₂, ◌∙◌}
 use native.Mathlib.Omega.{arith}
-use borrow.Author.Rules.{rules}
 use borrow.Author.Tests.{lt-ltb, le-ltb}
 use lib.Dec.{eqb, ltb}
 use lib.ListN.{get_or, take, drop}
 use Rattle.board.specs.Places.{places, segment_of, rising, is_listed, before}
 use Rattle.board.proofs.Rising.{at_place}
 use Rattle.board.proofs.Places.{length-places, nth-place, part}
-use Rattle.board.proofs.is_at.Statement.{statement}
-use Rattle.board.proofs.is_at.Tie as tie
+use Rattle.board.proofs.is_at.Goals as goal
 
 module _ (count p g : ℕ) (b : List ℕ) (r : rising 0 (places count b) ≡ true) (e : p ≡ before g (places count b)) where
   at : is_listed g (places count b) ≡ (ltb p count && eqb (segment_of (get_or (places count b) p [])) g)
@@ -28,47 +26,15 @@ module _ (count p g : ℕ) (b : List ℕ) (r : rising 0 (places count b) ≡ tru
       at
       ∙ ap₂ (λ (t : Bool) (s : List ℕ). t && eqb (segment_of s) g) (lt-ltb p count h) (nth-place count p b h ∙ sym (part p b))
 
-returns : tie.Need-returns
+pub returns-then-place-count : goal.returns-then-place-count
+returns-then-place-count c =
+    let pre = c.requires in
+    let a = c.args in
+    sym (at_count a.count a.place a.segment a.board.now pre.1.0 pre.1.1 c.if-place-count.true)
+
+pub returns : goal.returns
 returns c =
-    let pre = c.before.before.requires in
-    let a = c.before.before.args in
-    sym (at_count a.count a.place a.segment a.board.now pre.1.0 pre.1.1 c.if1.true)
-
-mul_at : tie.Need-overflow-mul-at
-mul_at c = search rules
-
-add-end : tie.Need-overflow-add-end
-add-end c = search rules
-
-sub-segment-of : tie.Need-overflow-sub-segment-of
-sub-segment-of c = search rules
-
-part-segment-of-start : tie.Need-slice-bounds-segment-of-start
-part-segment-of-start c = search rules
-
-part-segment-of-end : tie.Need-slice-bounds-segment-of-end
-part-segment-of-end c = search rules
-
-segment-of-requires : tie.Need-segment-of-requires
-segment-of-requires c κs = search rules
-
-returns-2 : tie.Need-returns-2
-returns-2 c =
-    let tested = c.before.before in
-    let pre = tested.before.before.requires in
-    let a = tested.before.before.args in
-    ap (λ (n : ℕ). eqb n a.segment) c.segment-of.ensures.0
-    ∙ sym (below-count a.count a.place a.segment a.board.now pre.1.0 pre.1.1 (omega (arith, tested.if1.false)))
-
-pub is-at-spec : {M : Type 1} → statement M
-is-at-spec =
-    tie.close
-    (tie.spec
-    returns
-    mul_at
-    add-end
-    sub-segment-of
-    part-segment-of-start
-    part-segment-of-end
-    segment-of-requires
-    returns-2)
+    let pre = c.requires in
+    let a = c.args in
+    ap (λ (n : ℕ). eqb n a.segment) c.segment_of.ensures.number
+    ∙ sym (below-count a.count a.place a.segment a.board.now pre.1.0 pre.1.1 (omega (arith, c.if-place-count.false)))
