@@ -1,5 +1,7 @@
 // Local noise factors (phy_mfsk/rx/model.rs): for each row and bin how far the noise has grown there over the burst's. `local_noise` is
 // the public entry. Definitions in specs/.
+#![tactic(auto)]
+
 ghost use Rattle.std.specs.Prelude.{◌≡◌, ℕ, ◌+◌, ◌*◌, ◌≤◌, ◌<◌, ltb, length, get_or};
 ghost use Rattle.std.specs.Float.{nan, binary32};
 ghost use Rattle.std.specs.Float.Ieee.{div};
