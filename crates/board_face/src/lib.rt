@@ -1,4 +1,6 @@
 // The board's face to C. The entry itself is in crate `board`.
+#![tactic(auto)]
+
 ghost use Rattle.std.specs.Prelude.{◌≡◌};
 ghost use Rattle.util.specs.Refusal.{number};
 ghost use Rattle.board.specs.Rules.{reading_first};

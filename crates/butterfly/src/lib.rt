@@ -2,6 +2,8 @@
 // registers that have two labels between them. Labels are linear, so a block of 32 states needs two rows of 16 metrics, and the rows of all
 // blocks are 32; no label is looked up for a state, and a block is straight vector code. What the areas hold is document 01's search, as
 // crate trellis defines it, at f32 (fec/conv.rs: a step of `pass`).
+#![tactic(auto)]
+
 ghost use Rattle.std.specs.Prelude.{List, ◌≡◌, ℕ, ◌+◌, ◌*◌, ◌<◌, ◌≤◌, Float, length};
 ghost use Rattle.std.specs.Int.Bits.{bit_xor};
 ghost use Rattle.std.specs.Float.Ieee.{lt};

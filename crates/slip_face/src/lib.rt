@@ -1,5 +1,7 @@
 // The slips' face to C: a slip's values as eight numbers, in and out. The entries themselves are in crate `slip`, whose numbers
 // these are. Definitions in specs/.
+#![tactic(auto)]
+
 ghost use Rattle.std.specs.Prelude.{◌≡◌, length};
 ghost use Rattle.util.specs.Refusal.{number, place, itself};
 ghost use Rattle.slip.specs.Slips.{writing, written, reading};
