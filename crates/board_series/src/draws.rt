@@ -1,7 +1,7 @@
 // What a put of a series is drawn as: four words, by which its slip is spelt and its damage chosen.
 ghost use Rattle.std.specs.Prelude.{◌≡◌, ◌≤◌, length};
 
-#[derive(Drop)]
+#[derive(Clone, Copy)]
 pub struct Turn {
     pub x: u64,
     pub y: u64,

@@ -3,7 +3,7 @@
 // whether there are Likely slips. The answer is a digest: each put's number with the count that it left, then the board's bytes.
 ghost use Rattle.std.specs.Prelude.{◌≡◌, ◌≤◌, length};
 
-use libc::STDIN_FILENO;
+const STDIN: i32 = 0;
 
 mod draws;
 
@@ -134,7 +134,7 @@ fn agreeing(s: &[u8]) -> u64 {
 
 fn main() {
     let mut buffer = io::large_buffer();
-    let n = io::read_full(STDIN_FILENO, &mut buffer);
+    let n = io::read_full(STDIN, &mut buffer);
     let s = &buffer[..n];
     records::tally(agreeing(s), records::count(s));
 }

@@ -10,10 +10,13 @@ ghost use Rattle.std.specs.Prelude.{◌≤◌, ◌≡◌, length};
 use burst_file::format::{Head, HeadRead, Problem};
 use burst_file::verdict;
 use burst_input::arguments::Asked;
+use burst_input::file::Input;
 use burst_input::{arguments, file, problem};
 use burst_text::output;
 use burst_text::output::Waiting;
-use libc::STDIN_FILENO;
+use std::env::Env;
+use std::fs::Files;
+use std::io::{Read, Stdout};
 
 // How many words of decisions a header's passes fill.
 fn decision_words(kind: u8) -> usize
@@ -80,12 +83,13 @@ fn show_outcome(block: &mut [u8], out: Waiting, outcome: outcome::Outcome) -> Wa
 // The six lines of every burst.
 fn show_answer(
     block: &mut [u8],
+    to: Stdout,
     head: Head,
     answer: header::HeaderAnswer,
     counts: &[u32],
 ) -> Waiting {
     let outcome = answer.outcome;
-    let out = burst_lines::header(block, output::nothing(), head.kind, answer.word);
+    let out = burst_lines::header(block, output::nothing_for(to), head.kind, answer.word);
     let out = show_outcome(block, out, outcome);
     let out = burst_lines::ceiling(block, out, answer.ceiling);
     let good = verdict::crc_is_good(head.mode, head.kind, head.layout, answer.word);
@@ -139,6 +143,7 @@ fn with_metrics(block: &mut [u8], out: Waiting, asked: Asked, metrics: &[f32]) -
 }
 
 fn show_burst(
+    to: Stdout,
     head: Head,
     asked: Asked,
     answer: header::HeaderAnswer,
@@ -148,7 +153,7 @@ fn show_burst(
 ) {
     let mut space = io::large_buffer();
     let block: &mut [u8] = &mut space;
-    let out = show_answer(block, head, answer, counts);
+    let out = show_answer(block, to, head, answer, counts);
     let out = with_slip(block, out, asked, head, answer);
     let out = with_soft_bits(block, out, asked, soft);
     let out = with_metrics(block, out, asked, metrics);
@@ -157,6 +162,7 @@ fn show_burst(
 
 // The soft values of a burst whose header is answered, and then all that is to be shown.
 fn shown(
+    to: Stdout,
     head: Head,
     asked: Asked,
     answer: header::HeaderAnswer,
@@ -168,7 +174,7 @@ fn shown(
     match soft_values(head, data, counts, metrics, soft) {
         soft::Soft::Refused(k) => Problem::Refused(k),
         soft::Soft::Done => {
-            show_burst(head, asked, answer, counts, metrics, soft);
+            show_burst(to, head, asked, answer, counts, metrics, soft);
             Problem::None
         }
     }
@@ -176,6 +182,7 @@ fn shown(
 
 // A burst whose terms and counts are read.
 fn answered(
+    to: Stdout,
     head: Head,
     asked: Asked,
     first: &[f32],
@@ -187,14 +194,15 @@ fn answered(
     match header_read(head.mode, head.kind, first) {
         header::HeaderRead::Refused(k) => Problem::Refused(k),
         header::HeaderRead::Answer(answer) => {
-            shown(head, asked, answer, data, counts, metrics, soft)
+            shown(to, head, asked, answer, data, counts, metrics, soft)
         }
     }
 }
 
 // A burst whose head is good, over lists of its lengths.
-fn worked(
-    fd: i32,
+fn worked<R: Read>(
+    input: &mut Input<R>,
+    to: Stdout,
     head: Head,
     asked: Asked,
     first: &mut [f32],
@@ -203,8 +211,8 @@ fn worked(
     metrics: &mut [f32],
     soft: &mut [f32],
 ) -> Problem {
-    match file::filled(fd, first, data, counts) {
-        Problem::None => answered(head, asked, first, data, counts, metrics, soft),
+    match file::filled(input, first, data, counts) {
+        Problem::None => answered(to, head, asked, first, data, counts, metrics, soft),
         p => p,
     }
 }
@@ -230,7 +238,7 @@ fn header_terms(kind: u8) -> usize
 }
 
 // The lists, at their greatest lengths.
-fn burst(fd: i32, head: Head, asked: Asked) -> Problem
+fn burst<R: Read>(input: &mut Input<R>, to: Stdout, head: Head, asked: Asked) -> Problem
     requires { head.bits ≤ 10240 }
 {
     let mut first = [0.0f32; 16640];
@@ -242,7 +250,8 @@ fn burst(fd: i32, head: Head, asked: Asked) -> Problem
     let n = header_terms(head.kind);
     let m = (bits + 4) / 5;
     worked(
-        fd,
+        input,
+        to,
         head,
         asked,
         &mut first[..n],
@@ -253,32 +262,36 @@ fn burst(fd: i32, head: Head, asked: Asked) -> Problem
     )
 }
 
-fn read_burst(fd: i32, asked: Asked) -> Problem {
-    match file::read_head(fd) {
+fn read_burst<R: Read>(input: &mut Input<R>, to: Stdout, asked: Asked) -> Problem {
+    match file::read_head(input) {
         HeadRead::Bad(p) => p,
         HeadRead::Good(head) => {
             // a good head has no more; `burst` requires it
             if head.bits > 10240 {
                 return Problem::Refused(2);
             }
-            burst(fd, head, asked)
+            burst(input, to, head, asked)
         }
     }
 }
 
-fn read_file(i: usize, asked: Asked) {
-    let fd = file::opened(i);
-    if fd < 0 {
-        return;
-    }
-    problem::report(read_burst(fd, asked));
-    libc::close(fd);
+// The burst that a reader has, and what was wrong with it.
+fn read_from<R: Read + Drop>(from: R, to: Stdout, asked: Asked) {
+    let mut input = Input::new(from);
+    let p = read_burst(&mut input, to, asked);
+    problem::report(p, input.failure());
 }
 
-fn main() {
-    let asked = arguments::given();
+fn read_file<R: Env + Files>(rt: &R, i: usize, to: Stdout, asked: Asked) {
+    if let Some(from) = file::opened(rt, i) {
+        read_from(from, to, asked);
+    }
+}
+
+fn main(rt: HostRuntime) {
+    let asked = arguments::given(&rt);
     if asked.unknown > 0 {
-        arguments::refuse(asked.unknown);
+        arguments::refuse(&rt, asked.unknown);
         return;
     }
     if asked.misplaced || asked.wanted > 0 {
@@ -286,12 +299,12 @@ fn main() {
         return;
     }
     if asked.help {
-        arguments::help();
+        arguments::help(rt.stdout());
         return;
     }
     if asked.file > 0 {
-        read_file(asked.file, asked);
+        read_file(&rt, asked.file, rt.stdout(), asked);
         return;
     }
-    problem::report(read_burst(STDIN_FILENO, asked));
+    read_from(rt.stdin(), rt.stdout(), asked);
 }

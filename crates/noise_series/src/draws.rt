@@ -2,7 +2,7 @@
 // languages can round it apart.
 ghost use Rattle.std.specs.Prelude.{◌≤◌};
 
-#[derive(Drop)]
+#[derive(Clone, Copy)]
 pub struct Asked {
     pub seed: u64,
     pub rows: u32,

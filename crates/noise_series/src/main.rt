@@ -2,7 +2,7 @@
 // 32 bits, then how many rows there are in 12 bits, up to 2,049, the mode and the kind in two bits each, a style in four, and twice four
 // bits by which something is damaged (damage.rt). The answer is a digest: the number that is returned, then the bits of every factor
 // lent, which on a refusal are those from before.
-use libc::STDIN_FILENO;
+const STDIN: i32 = 0;
 
 mod damage;
 mod draws;
@@ -96,7 +96,7 @@ fn agreeing(s: &[u8]) -> u64 {
 
 fn main() {
     let mut buffer = io::large_buffer();
-    let n = io::read_full(STDIN_FILENO, &mut buffer);
+    let n = io::read_full(STDIN, &mut buffer);
     let s = &buffer[..n];
     records::tally(agreeing(s), records::count(s));
 }

@@ -7,7 +7,7 @@ ghost use Rattle.std.specs.Prelude.{◌+◌, ◌/◌, ◌≤◌, ◌<◌, length
 
 const SIZE: usize = 17;
 
-#[derive(Drop)]
+#[derive(Clone, Copy)]
 pub struct Record {
     pub what: u8,
     pub asked: u64,

@@ -1,7 +1,11 @@
 // What the arguments ask for, and the usage.
-use burst_text::output::{Waiting, finish, nothing, tell, text};
+ghost use Rattle.std.specs.Prelude.{◌≤◌, length, IfSome};
 
-#[derive(Drop)]
+use burst_text::output::{Waiting, finish, nothing, nothing_for, tell, text};
+use std::env::{Env, FillError};
+use std::io::Stdout;
+
+#[derive(Clone, Copy)]
 pub struct Asked {
     pub help: bool,
     // the number of the first argument that is unknown; 0 where there is none
@@ -25,20 +29,30 @@ fn with_word(asked: Asked, i: usize, is_help: bool) -> Asked {
     more
 }
 
-fn with_argument(asked: Asked, i: usize) -> Asked {
-    let mut word = io::buffer();
-    let n = os::arg(i, &mut word);
-    with_word(asked, i, is_help(&word[..n]))
+// How many bytes of argument i are at the start of `word`: 0 where it is longer than that. None where there are not so many
+// arguments.
+fn put_argument<R: Env>(rt: &R, i: usize, word: &mut [u8]) -> Option<usize>
+    ensures { IfSome result (λ n. n ≤ length word.new) }
+{
+    match rt.arg(i, word) {
+        Ok(n) => Some(n),
+        Err(FillError::TooLong) => Some(0),
+        Err(FillError::NotPresent) => None,
+    }
 }
 
 // Inside: what all of them ask for.
-pub fn given() -> Asked {
+pub fn given<R: Env>(rt: &R) -> Asked {
     let mut all = Asked {
         help: false,
         unknown: 0,
     };
-    for i in 1..os::arg_count() {
-        all = with_argument(all, i);
+    let mut word = io::buffer();
+    for i in 1..usize::MAX {
+        match put_argument(rt, i, &mut word) {
+            Some(n) => all = with_word(all, i, is_help(&word[..n])),
+            None => break,
+        }
     }
     all
 }
@@ -57,15 +71,15 @@ fn usage(block: &mut [u8], out: Waiting) -> Waiting {
     )
 }
 
-fn show_help(block: &mut [u8]) {
-    let out = usage(block, nothing());
+fn show_help(block: &mut [u8], to: Stdout) {
+    let out = usage(block, nothing_for(to));
     finish(block, out, b"segments: standard output");
 }
 
 // Inside: the usage on standard output.
-pub fn help() {
+pub fn help(to: Stdout) {
     let mut block = io::buffer();
-    show_help(&mut block);
+    show_help(&mut block, to);
 }
 
 // The word on standard error, and the usage.
@@ -78,9 +92,11 @@ fn show_unknown(block: &mut [u8], word: &[u8]) {
 }
 
 // Inside: tells that argument i is unknown.
-pub fn refuse(i: usize) {
+pub fn refuse<R: Env>(rt: &R, i: usize) {
     let mut block = io::large_buffer();
     let mut word = io::buffer();
-    let n = os::arg(i, &mut word);
-    show_unknown(&mut block, &word[..n]);
+    match put_argument(rt, i, &mut word) {
+        Some(n) => show_unknown(&mut block, &word[..n]),
+        None => show_unknown(&mut block, b""),
+    }
 }

@@ -1,14 +1,34 @@
 // Slips from standard input, put on a board one after another.
-ghost use Rattle.std.specs.Prelude.{◌<◌, ◌^◌};
+ghost use Rattle.std.specs.Prelude.{◌<◌, ◌≤◌, ◌^◌, length};
 
 use board::Put;
-use libc::STDIN_FILENO;
 use segments_lines::refusal;
+use std::io::{Error, Read};
 
-// Whether the input has ended, where there was less than a slip; else a read failed.
-fn has_ended() -> bool {
+// Reads until the bytes are full, the input ends or a read fails; the answer is how many there are.
+fn read_full<R: Read>(input: &mut R, bytes: &mut [u8]) -> usize
+    ensures { result ≤ length bytes.new }
+{
+    let mut done = 0;
+    while done < bytes.len() {
+        match input.read(&mut bytes[done..]) {
+            Ok(0) => break,
+            Ok(n) => done += n,
+            Err(_) => break,
+        }
+    }
+    done
+}
+
+// Nothing where the input has ended, where there was less than a slip; else why a read failed. One that goes on failed with the
+// system's number 0.
+fn not_ended<R: Read>(input: &mut R) -> Option<Error> {
     let mut one = [0u8; 1];
-    libc::read(STDIN_FILENO, &mut one) == 0
+    match input.read(&mut one) {
+        Ok(0) => None,
+        Ok(_) => Some(Error::from_raw_os_error(0)),
+        Err(error) => Some(error),
+    }
 }
 
 // Puts a slip on the board, and tells a refusal; `before` slips came before it. One that is not whole is the input's end.
@@ -22,11 +42,17 @@ fn put_one(board: &mut [u8], count: &mut u32, slip: &[u8], before: u64)
 }
 
 // What was read where there was less than a slip: nothing, or a broken slip that the input ends in.
-fn put_rest(board: &mut [u8], count: &mut u32, rest: &[u8], before: u64)
+fn put_rest<R: Read>(
+    input: &mut R,
+    board: &mut [u8],
+    count: &mut u32,
+    rest: &[u8],
+    before: u64,
+)
     requires { before < 2 ^ 58 }
 {
-    if !has_ended() {
-        os::fail(b"segments: standard input");
+    if let Some(error) = not_ended(input) {
+        say::fail(b"segments: standard input", &error);
         return;
     }
     if rest.len() > 0 {
@@ -35,24 +61,24 @@ fn put_rest(board: &mut [u8], count: &mut u32, rest: &[u8], before: u64)
 }
 
 // Reads a slip and puts it on the board. Answers whether another may follow.
-fn put_next(board: &mut [u8], count: &mut u32, before: u64) -> bool
+fn put_next<R: Read>(input: &mut R, board: &mut [u8], count: &mut u32, before: u64) -> bool
     requires { before < 2 ^ 58 }
 {
     let mut slip = [0u8; 44];
-    let n = io::read_full(STDIN_FILENO, &mut slip);
+    let n = read_full(input, &mut slip);
     if n == 44 {
         put_one(board, count, &slip, before);
         return true;
     }
-    put_rest(board, count, &slip[..n], before);
+    put_rest(input, board, count, &slip[..n], before);
     false
 }
 
 // Inside: every slip of the input. A proved loop has to end, and nothing says that the input does: no run reaches 2^58 slips,
 // which take 9,000 years at a million a second.
-pub fn put_all(board: &mut [u8], count: &mut u32) {
+pub fn put_all<R: Read>(input: &mut R, board: &mut [u8], count: &mut u32) {
     let mut before = 0u64;
-    while before < 0x400_0000_0000_0000 && put_next(board, count, before) {
+    while before < 0x400_0000_0000_0000 && put_next(input, board, count, before) {
         before += 1;
     }
 }

@@ -6,24 +6,25 @@ mod arguments;
 mod input;
 
 use segments_lines::listed;
+use std::io::{Read, Stdout};
 
 // The board's 512 places of 44 bytes, of which none is listed at the start.
-fn run() {
+fn run<R: Read>(input: &mut R, to: Stdout) {
     let mut board = [0u8; 22528];
     let mut count = 0u32;
-    input::put_all(&mut board, &mut count);
-    listed::print(&board, count);
+    input::put_all(input, &mut board, &mut count);
+    listed::print(to, &board, count);
 }
 
-fn main() {
-    let asked = arguments::given();
+fn main(rt: HostRuntime) {
+    let asked = arguments::given(&rt);
     if asked.unknown > 0 {
-        arguments::refuse(asked.unknown);
+        arguments::refuse(&rt, asked.unknown);
         return;
     }
     if asked.help {
-        arguments::help();
+        arguments::help(rt.stdout());
         return;
     }
-    run();
+    run(&mut rt.stdin(), rt.stdout());
 }

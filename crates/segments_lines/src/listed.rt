@@ -1,8 +1,9 @@
 // The board's lines: segment, word, outcome, pass, score and start sample.
 use burst_text::figures::float;
-use burst_text::output::{Waiting, counted, finish, hex, nothing, text};
+use burst_text::output::{Waiting, counted, finish, hex, nothing_for, text};
 use outcome::Outcome;
 use slip::{Slip, SlipRead};
+use std::io::Stdout;
 
 // The header's word, 12 digits for the 48 bits of a HeaderOnly or Cue header, 16 for the 64 of a Data header.
 fn word(block: &mut [u8], out: Waiting, kind: u8, w: u64) -> Waiting {
@@ -66,15 +67,15 @@ fn places(block: &mut [u8], out: Waiting, listed: &[u8]) -> Waiting {
 }
 
 // No more places are listed than there are.
-fn show(block: &mut [u8], board: &[u8], count: usize) {
+fn show(block: &mut [u8], to: Stdout, board: &[u8], count: usize) {
     if count <= board.len() / 44 {
-        let out = places(block, nothing(), &board[..44 * count]);
+        let out = places(block, nothing_for(to), &board[..44 * count]);
         finish(block, out, b"segments: standard output");
     }
 }
 
 // Inside: a line for each of a board's first `count` places.
-pub fn print(board: &[u8], count: u32) {
+pub fn print(to: Stdout, board: &[u8], count: u32) {
     let mut block = io::large_buffer();
-    show(&mut block, board, count as usize);
+    show(&mut block, to, board, count as usize);
 }

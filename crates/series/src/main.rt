@@ -2,7 +2,7 @@
 // (crate `by_value`) and 194 + mode through the C function; 196 + mode and 198 + mode for a series of calls of the tracker,
 // likewise. The argument has a seed in its lowest 32 bits, then the count of blocks or calls in 16; one more bit puts a timing
 // out of range.
-use libc::STDIN_FILENO;
+const STDIN: i32 = 0;
 
 mod draws;
 mod fits;
@@ -38,7 +38,7 @@ fn agreeing(s: &[u8]) -> u64 {
 
 fn main() {
     let mut buffer = io::large_buffer();
-    let n = io::read_full(STDIN_FILENO, &mut buffer);
+    let n = io::read_full(STDIN, &mut buffer);
     let s = &buffer[..n];
     records::tally(agreeing(s), records::count(s));
 }

@@ -1,7 +1,7 @@
 // Replays the answers that oracle/record.rs has recorded, against the proved parts; the records' shape is crate `records`.
 ghost use Rattle.std.specs.Prelude.{◌+◌, ◌≤◌, length};
 
-use libc::STDIN_FILENO;
+const STDIN: i32 = 0;
 
 mod bursts;
 mod read;
@@ -116,7 +116,7 @@ fn agreeing(s: &[u8]) -> u64 {
 
 fn main() {
     let mut buffer = io::large_buffer();
-    let n = io::read_full(STDIN_FILENO, &mut buffer);
+    let n = io::read_full(STDIN, &mut buffer);
     let s = &buffer[..n];
     records::tally(agreeing(s), records::count(s));
 }

@@ -50,7 +50,7 @@ pub fn bits(score: f32) -> u64 {
 }
 
 // A header as read: 0 or the refusal's number, and the five places.
-#[derive(Drop)]
+#[derive(Clone, Copy)]
 pub struct Answer {
     number: u32,
     word: u64,
