@@ -42,13 +42,7 @@ fn put_one(board: &mut [u8], count: &mut u32, slip: &[u8], before: u64)
 }
 
 // What was read where there was less than a slip: nothing, or a broken slip that the input ends in.
-fn put_rest<R: Read>(
-    input: &mut R,
-    board: &mut [u8],
-    count: &mut u32,
-    rest: &[u8],
-    before: u64,
-)
+fn put_rest<R: Read>(input: &mut R, board: &mut [u8], count: &mut u32, rest: &[u8], before: u64)
     requires { before < 2 ^ 58 }
 {
     if let Some(error) = not_ended(input) {

@@ -2,6 +2,8 @@
 // the start, and prints the board that they leave: a line a segment, segments rising. A slip that is refused is told on standard
 // error when it is met, and set aside. docs/SEGMENTS.md has the lines; `segments --help` prints the usage.
 // It holds one slip and the board, however many slips there are.
+#![tactic(auto)]
+
 mod arguments;
 mod input;
 
