@@ -1,5 +1,7 @@
 // Soft values: the metrics and soft bits of a burst, in bit form and in symbol form (phy_mfsk/rx/data.rs, the second half
 // of `service_burst`), which is a public entry. Definitions in specs/.
+#![tactic(auto)]
+
 ghost use Rattle.std.specs.Prelude.{◌≡◌, true, false, ◌*◌, ◌-◌};
 ghost use Rattle.util.specs.Some.{some_of};
 ghost use Rattle.interleave.specs.Interleave.{symbols_of};
@@ -25,6 +27,7 @@ fn some_count_out(window: u32, blanked: &[u32]) -> bool
 }
 
 // Whether every list has its length.
+#[tactic(auto, unfolding(crate::specs::Entry::sizes))]
 fn sized(bits: u32, terms: usize, blanked: usize, work: usize, metrics: usize, soft: usize) -> bool
     ensures { result ≡ sizes (symbols_of bits) bits terms blanked work metrics soft }
 {
