@@ -26,6 +26,7 @@ fn whole_root(t: u64) -> u64
 }
 
 // Inside: √n. Below 4, below 16 and from there on it lies in another binade, and its digits end at another power of 2.
+#[tactic(auto, using(crate::proofs::Ways::low_way, crate::proofs::Ways::middle_way, crate::proofs::Ways::high_way))]
 pub fn root(n: u32) -> f32
     requires { n ≤ 52 }
     ensures { result ≡ root_of n }
