@@ -1,5 +1,7 @@
 // The start state of every survivor of a pass, followed forward through the decisions, eight states at a time: each state has the one that
 // its predecessor had. A traceback from every state would find the same, one by one.
+#![tactic(auto)]
+
 ghost use Rattle.std.specs.Prelude.{◌≡◌, ℕ, ◌+◌, ◌*◌, ◌%◌, ◌<◌, ◌≤◌, eqb, length, get_or};
 ghost use Rattle.std.specs.Int.Bits.{bit_and};
 ghost use Rattle.util.specs.Choose.{choose};

@@ -1,6 +1,8 @@
 // The greatest of 16,384 numbers, sixteen at a time, each lane keeping the greatest that it has met: the end state of a pass and its top
 // (fec/conv.rs: `pass`, which goes one by one). Lanes meet the states in another order, so the lowest place that reaches the greatest
 // number is looked for afterwards. Definitions in specs/.
+#![tactic(auto)]
+
 ghost use Rattle.std.specs.Prelude.{◌≡◌, ◌+◌, ◌<◌, length};
 ghost use Rattle.trellis.specs.Numbers.{single};
 ghost use Rattle.trellis.specs.Scale.{highest};

@@ -1,0 +1,20 @@
+-- `peak::more_gains` meets its contract. The invariant: the lanes passed have met one gain more. The measure is what is left of the sixteen.
+-- Assumes nothing.
+use Prim.Native.Nat.{◌+◌}
+use mathlib.Core.Path.{◌∙◌}
+use native.Mathlib.Omega.{arith}
+use lib.Ieee.{nan}
+use lib.ListN.{length-set}
+use Rattle.util.proofs.Fill.{up_done}
+use Rattle.peak.specs.Peak.{gain_in, greatest, lane}
+use Rattle.peak.proofs.Greatest.{lane-more}
+use Rattle.peak.proofs.more_gains.Goals as goal
+
+pub loop-k-preserved : goal.loop-k-preserved
+loop-k-preserved c =
+    let f = gain_in c.args.scores.now c.args.start.now in (
+      omega arith,
+      simp length-set c.loop-k.invariant.1,
+      up_done c.loop-k.r c.loop-k.k _ nan (λ q. greatest (lane f q) (c.args.i + 1 + 1)) (omega arith)
+          (c.greater.ensures ∙ lane-more c.requires.3 c.loop-k.k (omega arith)) c.loop-k.invariant.2,
+    )

@@ -1,0 +1,16 @@
+-- `peak::peak` meets its contract. The invariant: the lanes have met the rounds passed. The measure is what is left of the 1,024 rounds.
+-- Assumes nothing.
+use mathlib.Core.Path.{◌≡◌, sym, subst}
+use native.Mathlib.Omega.{arith}
+use Rattle.pass.specs.Areas.{table}
+use Rattle.peak.specs.Peak.{Peak}
+use Rattle.peak.proofs.Greatest.{lanes-begun, lanes-peak}
+use Rattle.peak.proofs.peak.Goals as goal
+
+pub loop-i-init : goal.loop-i-init
+loop-i-init c = (omega arith, lanes-begun (table c.args.scores.now))
+
+pub returns : goal.returns
+returns c =
+    let all : c.loop-i.i ≡ 1024 = omega arith in
+    subst (Peak (table c.args.scores.now) 16384) (sym c.of_all.ensures) (lanes-peak (rw all at c.loop-i.invariant.1) (omega arith))
