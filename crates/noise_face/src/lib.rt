@@ -1,4 +1,6 @@
 // The local noise factors' face to C: the answer as a number. The entry itself is crate `noise`. Definitions in specs/.
+#![tactic(auto)]
+
 ghost use Rattle.noise.specs.Entry.{asked};
 ghost use Rattle.noise_face.specs.Face.{NoiseFace};
 

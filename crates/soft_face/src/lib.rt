@@ -1,5 +1,7 @@
 // The soft values' face to C: the form as a number, and the answer as one. The entry itself is crate `soft`.
 // Definitions in specs/.
+#![tactic(auto)]
+
 ghost use Rattle.std.specs.Prelude.{not, eqb};
 ghost use Rattle.soft.specs.Entry.{asked};
 ghost use Rattle.soft_face.specs.Face.{SoftFace};
