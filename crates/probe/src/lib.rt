@@ -1,5 +1,7 @@
 // Doors to parts that serve inside, as C functions: oracle/ holds them against the Rust, and the program `vectors` replays
 // recorded answers through them. Where there is no answer a door gives 2^32. The entries have the face, crate `ion`.
+#![tactic(auto)]
+
 ghost use Rattle.std.specs.Prelude.{◌≡◌, ◌/◌, ltb, length, get_or};
 ghost use Rattle.std.specs.Float.{nan};
 ghost use Rattle.util.specs.Choose.{choose};
