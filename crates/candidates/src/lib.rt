@@ -1,5 +1,7 @@
 // The candidates of a pass: a survivor that ends where it started is a closed word. The start states of all survivors are followed forward
 // (crate forward), and only the candidate taken is traced back (fec/conv.rs: the loop over the states in `decode_tb`, which traces them all).
+#![tactic(auto)]
+
 ghost use Rattle.std.specs.Prelude.{◌≡◌, Bool, List, ℕ, ◌*◌, ◌%◌, ◌<◌, ◌≤◌, length};
 ghost use Rattle.trellis.specs.Numbers.{single};
 ghost use Rattle.trellis.specs.Search as Search;
