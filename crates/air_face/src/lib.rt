@@ -1,6 +1,8 @@
 // What is sent, as C calls it: the interleaver's multiplier, the CRC, a header's symbol values and data through both
 // interleavers, each with its answer as a number and its result in a place, written only where it is not refused. The
 // entries themselves are crates `util`, `frame`, `conv` and `interleave`.
+#![tactic(auto)]
+
 ghost use Rattle.std.specs.Prelude.{◌≡◌, length};
 ghost use Rattle.util.specs.Refusal.{number, place, itself};
 ghost use Rattle.util.specs.Multiplier.{multiplier};
