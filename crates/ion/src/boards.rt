@@ -5,8 +5,7 @@ ghost use Rattle.util.specs.Refusal.{number};
 ghost use Rattle.board.specs.Rules.{reading_first};
 ghost use Rattle.board.specs.Putting.{putting, board_after, count_after};
 
-#[unsafe(no_mangle)]
-pub extern "C" fn ion_put_slip(board: &mut [u8], count: &mut u32, slip: &[u8]) -> u32
+pub fn ion_put_slip(board: &mut [u8], count: &mut u32, slip: &[u8]) -> u32
     ensures answer { result ≡ number (putting board.old count.old slip.now) }
     ensures lent { board.new ≡ board_after reading_first board.old count.old slip.now }
     ensures counted { count.new ≡ count_after board.old count.old slip.now }

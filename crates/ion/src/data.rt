@@ -3,8 +3,7 @@ ghost use Rattle.std.specs.Prelude.{not, eqb};
 ghost use Rattle.soft.specs.Entry.{asked};
 ghost use Rattle.soft_face.specs.Face.{SoftFace};
 
-#[unsafe(no_mangle)]
-pub extern "C" fn ion_soft_values(
+pub fn ion_soft_values(
     mode: u8,
     kind: u8,
     layout: u8,

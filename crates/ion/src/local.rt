@@ -2,8 +2,7 @@
 ghost use Rattle.noise.specs.Entry.{asked};
 ghost use Rattle.noise_face.specs.Face.{NoiseFace};
 
-#[unsafe(no_mangle)]
-pub extern "C" fn ion_local_noise(
+pub fn ion_local_noise(
     mode: u8,
     kind: u8,
     rows: u32,

@@ -8,8 +8,7 @@ ghost use Rattle.trellis.specs.Demand.{Claims};
 ghost use Rattle.header.specs.Read.{areas};
 ghost use Rattle.header_face.specs.Face.{lent, answer_at, HeaderFace, HeaderFaceWith};
 
-#[unsafe(no_mangle)]
-pub extern "C" fn ion_read_header(
+pub fn ion_read_header(
     mode: u8,
     kind: u8,
     terms: &[f32],
@@ -36,16 +35,14 @@ pub extern "C" fn ion_read_header(
     )
 }
 
-#[unsafe(no_mangle)]
-pub extern "C" fn ion_fill_labels(labels: &mut [u16]) -> u32
+pub fn ion_fill_labels(labels: &mut [u16]) -> u32
     ensures answer { result ≡ number (fill_answer (length labels.old)) }
     ensures lent { labels.new ≡ table_after labels.old }
 {
     header_face::fill(labels)
 }
 
-#[unsafe(no_mangle)]
-pub extern "C" fn ion_read_header_with(
+pub fn ion_read_header_with(
     mode: u8,
     kind: u8,
     terms: &[f32],

@@ -5,8 +5,7 @@ ghost use Rattle.util.specs.Refusal.{number, place, itself};
 ghost use Rattle.slip.specs.Slips.{writing, written, reading};
 ghost use Rattle.slip_face.specs.Face.{fields, Told};
 
-#[unsafe(no_mangle)]
-pub extern "C" fn ion_write_slip(
+pub fn ion_write_slip(
     mode: u8,
     kind: u8,
     word: u64,
@@ -23,8 +22,7 @@ pub extern "C" fn ion_write_slip(
     slip_face::write(mode, kind, word, outcome, pass, score, start, segment, slip)
 }
 
-#[unsafe(no_mangle)]
-pub extern "C" fn ion_read_slip(
+pub fn ion_read_slip(
     slip: &[u8],
     mode: &mut u8,
     kind: &mut u8,

@@ -5,16 +5,14 @@ ghost use Rattle.util.specs.Refusal.{number, place, itself};
 ghost use Rattle.fit.specs.Lists.{fit_over};
 ghost use Rattle.timing_face.specs.Face.{tracker_of, sample_of, TrackFace};
 
-#[unsafe(no_mangle)]
-pub extern "C" fn ion_fit_drift(mode: u8, places: &[u32], timings: &[f64], drift: &mut f64) -> u32
+pub fn ion_fit_drift(mode: u8, places: &[u32], timings: &[f64], drift: &mut f64) -> u32
     ensures answer { result ≡ number (fit_over mode places.now timings.now) }
     ensures lent { drift.new ≡ place itself (fit_over mode places.now timings.now) drift.old }
 {
     timing_face::fit(mode, places, timings, drift)
 }
 
-#[unsafe(no_mangle)]
-pub extern "C" fn ion_track_timing(
+pub fn ion_track_timing(
     mode: u8,
     n: &mut usize,
     shift: &mut i32,

@@ -1,0 +1,47 @@
+// What is sent: the interleaver's multiplier, the CRC, a header's symbol values, and data through both interleavers.
+ghost use Rattle.std.specs.Prelude.{◌≡◌, length};
+ghost use Rattle.util.specs.Refusal.{number, place, itself};
+ghost use Rattle.util.specs.Multiplier.{multiplier};
+ghost use Rattle.frame.specs.Crc.{crc_answer};
+ghost use Rattle.conv.specs.Sent.{sent_answer, sent_values};
+ghost use Rattle.interleave.specs.Sending.{bits_answer, slots_after, symbols_answer, values_after};
+
+#[unsafe(no_mangle)]
+pub extern "C" fn ion_interleave_mult(n: u64, mult: &mut u64) -> u32
+    ensures answer { result ≡ number (multiplier n) }
+    ensures lent { mult.new ≡ place itself (multiplier n) mult.old }
+{
+    ion::air::ion_interleave_mult(n, mult)
+}
+
+#[unsafe(no_mangle)]
+pub extern "C" fn ion_crc(mode: u8, kind: u8, layout: u8, bits: &[u8], crc: &mut u16) -> u32
+    ensures answer { result ≡ number (crc_answer mode kind layout bits.now) }
+    ensures lent { crc.new ≡ place itself (crc_answer mode kind layout bits.now) crc.old }
+{
+    ion::air::ion_crc(mode, kind, layout, bits, crc)
+}
+
+#[unsafe(no_mangle)]
+pub extern "C" fn ion_header_values(mode: u8, kind: u8, bits: &[u8], values: &mut [u8]) -> u32
+    ensures answer { result ≡ number (sent_answer mode kind bits.now (length values.old)) }
+    ensures lent { values.new ≡ sent_values mode kind bits.now values.old }
+{
+    ion::air::ion_header_values(mode, kind, bits, values)
+}
+
+#[unsafe(no_mangle)]
+pub extern "C" fn ion_interleave(bits: &[u8], slots: &mut [u8]) -> u32
+    ensures answer { result ≡ number (bits_answer bits.now (length slots.old)) }
+    ensures lent { slots.new ≡ slots_after bits.now slots.old }
+{
+    ion::air::ion_interleave(bits, slots)
+}
+
+#[unsafe(no_mangle)]
+pub extern "C" fn ion_interleave_sym(symbols: &[u8], values: &mut [u8]) -> u32
+    ensures answer { result ≡ number (symbols_answer symbols.now (length values.old)) }
+    ensures lent { values.new ≡ values_after symbols.now values.old }
+{
+    ion::air::ion_interleave_sym(symbols, values)
+}

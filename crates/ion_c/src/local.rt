@@ -1,0 +1,20 @@
+// Local noise: how far the noise of each bin has grown, row by row, over the burst's.
+ghost use Rattle.noise.specs.Entry.{asked};
+ghost use Rattle.noise_face.specs.Face.{NoiseFace};
+
+#[unsafe(no_mangle)]
+pub extern "C" fn ion_local_noise(
+    mode: u8,
+    kind: u8,
+    rows: u32,
+    energies: &[f32],
+    noise: &[f32],
+    eps: f32,
+    r: f32,
+    factors: &mut [f32],
+) -> u32
+    ensures face { NoiseFace (asked mode kind rows energies.now noise.now eps r) factors.old result
+        factors.new }
+{
+    ion::local::ion_local_noise(mode, kind, rows, energies, noise, eps, r, factors)
+}
