@@ -3,8 +3,10 @@
 // arguments the header's slip, the soft bits and the metrics. docs/BURST-FORMAT.md has the file's table and the lines; `burst
 // --help` prints the usage.
 // Everything is worked out before anything is printed. Bad input gets one line on standard error and an empty standard
-// output. A Rattle program cannot choose its exit status: `burst FILE | grep .` ends with 1 where nothing was printed.
-// It needs 3 MB of stack, most of it the lists of the longest burst (it runs under `ulimit -s 3000` and not under 2950).
+// output. It ends with status 0 whatever it finds: `burst FILE | grep .` ends with 1 where nothing was printed.
+// It needs 3 MB of stack, most of it the lists of the longest burst (it runs under `ulimit -s 2950` and not under 2900).
+#![tactic(auto)]
+
 ghost use Rattle.std.specs.Prelude.{◌≤◌, ◌≡◌, length};
 
 use burst_file::format::{Head, HeadRead, Problem};
