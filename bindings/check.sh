@@ -9,7 +9,7 @@ case "${1:-}" in
     *) sed -n '2,4s/^# //p' "$0"; [ "$1" = --help ] || [ "$1" = -h ]; exit ;;
 esac
 mkdir -p target
-rt staticlib ion >target/staticlib-ion.log 2>&1 || { cat target/staticlib-ion.log >&2; exit 1; }
+tools/build.sh ion >target/staticlib-ion.log 2>&1 || { cat target/staticlib-ion.log >&2; exit 1; }
 for name in read labels send narrow slip board noise; do
     cc -std=c99 -Wall -Wextra -Werror -Iinclude "bindings/c/$name.c" target/staticlib/libion.a -o "target/$name"
     "target/$name"

@@ -1,5 +1,5 @@
 /* The receiving core of the ion HF modem, the sending halves of its interleavers, its burst slips, the segment board and local noise
- * factors, proved: the functions of the static library libion.a (`rt staticlib ion`).
+ * factors, proved: the functions of the static library libion.a (`tools/build.sh ion`).
  *
  * Every function takes any numbers and any buffers of the lengths that are told, and ends. It returns 0, or the number of the
  * refusal (ion_refusal has a text for each); of several causes the one that comes first in the order 1, 12, 2, 3, 4, 16, 5, 11, 6, 15, 7,

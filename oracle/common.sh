@@ -27,7 +27,7 @@ older() {
 our_library() {
     older "$root/target/staticlib/lib$1.a" "$root/crates" "$root/crates.txt" || return 0
     mkdir -p "$root/target"
-    (cd "$root" && rt staticlib "$1") >"$root/target/staticlib-$1.log" 2>&1 || { cat "$root/target/staticlib-$1.log" >&2; exit 1; }
+    (cd "$root" && tools/build.sh "$1") >"$root/target/staticlib-$1.log" 2>&1 || { cat "$root/target/staticlib-$1.log" >&2; exit 1; }
 }
 
 # OUT SUMS: the Rust as a library, where anything of it is newer

@@ -1,7 +1,7 @@
 #!/bin/sh
 # Holds target/bin/segments to a second board from document 02 over random series of slips, broken ones and full boards among them, and the
 # example in docs/SEGMENTS.md to what it prints and tells; ends with status 1 where something differs.
-# usage: oracle/segments_check.sh [SERIES]      (after `rt check segments burst`; needs rustc and ../shared; writes only below target/)
+# usage: oracle/segments_check.sh [SERIES]      (after `tools/build.sh segments burst`; needs rustc and ../shared; writes only below target/)
 # SERIES: 400 unless given.
 set -eu
 . "$(dirname "$0")/common.sh"
@@ -9,7 +9,7 @@ rust_library "$out" zero
 rust_program segments_check oracle/segments_check.rs
 cd "$root"
 for name in segments burst; do
-    [ -x target/bin/$name ] || { echo "segments_check.sh: there is no target/bin/$name: run \`rt check segments burst\` first" >&2; exit 2; }
+    [ -x target/bin/$name ] || { echo "segments_check.sh: there is no target/bin/$name: run \`tools/build.sh segments burst\` first" >&2; exit 2; }
 done
 # the example: every line of both outputs, in their order
 target/bin/segments <crates/segments/stdin >"$out/board" 2>"$out/told"

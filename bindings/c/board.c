@@ -1,6 +1,6 @@
 /* The planner's segment board: slips of a few segments are put on it in order of arrival, and it shows one a segment; then a broken slip, a
  * broken board and a full one. From the repository's root:
- *   rt staticlib ion
+ *   tools/build.sh ion
  *   cc -Iinclude bindings/c/board.c target/staticlib/libion.a -o target/board && target/board
  */
 #include "ion.h"

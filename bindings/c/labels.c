@@ -1,6 +1,6 @@
 /* Three headers of 64 that arrive together: labels filled in advance, once, and lent to every read; each is read by parity too, and both ways
  * agree. Then tables that are refused: one entry off, and too short. From the repository's root:
- *   rt staticlib ion
+ *   tools/build.sh ion
  *   cc -Iinclude bindings/c/labels.c target/staticlib/libion.a -o target/labels && target/labels
  */
 #include "ion.h"

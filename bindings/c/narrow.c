@@ -1,6 +1,6 @@
 /* A narrow channel: a header sent with its CRC in layout 7, read back, and its CRC tried in every layout; then how many blanked samples
  * erase a data symbol there. From the repository's root:
- *   rt staticlib ion
+ *   tools/build.sh ion
  *   cc -Iinclude bindings/c/narrow.c target/staticlib/libion.a -o target/narrow && target/narrow
  */
 #include "ion.h"

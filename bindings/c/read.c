@@ -1,6 +1,6 @@
 /* Sends a header, reads it back from clean terms, reads two that hardly anything was heard of, follows a late burst, and shows refusals. From
  * the repository's root:
- *   rt staticlib ion
+ *   tools/build.sh ion
  *   cc -Iinclude bindings/c/read.c target/staticlib/libion.a -o target/read && target/read
  */
 #include "ion.h"

@@ -1,6 +1,6 @@
 /* Sends data bits and code symbols, hears them without a fault, and reads both back: what the gate answers, the shed reads. From the
  * repository's root:
- *   rt staticlib ion
+ *   tools/build.sh ion
  *   cc -Iinclude bindings/c/send.c target/staticlib/libion.a -o target/send && target/send
  */
 #include "ion.h"

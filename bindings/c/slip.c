@@ -1,6 +1,6 @@
 /* A slip for the shed computer: a header is read, told with its start sample and segment in 44 bytes, and read back from them; then one
  * byte is damaged. From the repository's root:
- *   rt staticlib ion
+ *   tools/build.sh ion
  *   cc -Iinclude bindings/c/slip.c target/staticlib/libion.a -o target/slip && target/slip
  */
 #include "ion.h"

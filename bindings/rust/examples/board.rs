@@ -1,6 +1,6 @@
 //! The planner's segment board: slips of a few segments are put on it in order of arrival, and it shows one a segment; then it is filled,
 //! kept as bytes and taken up again. From the repository's root:
-//!   rt staticlib ion
+//!   tools/build.sh ion
 //!   cargo run --offline --manifest-path bindings/rust/Cargo.toml --target-dir target/rust --example board
 use ion_proved::{Board, Kind, Mode, Outcome, Refusal, SEGMENTS, Slip};
 

@@ -1,6 +1,6 @@
 //! Three headers of 64 that arrive together: labels filled in advance, once, and lent to three threads; each header is read by parity too,
 //! and both ways agree. Then tables that are refused: one entry off, and too short. From the repository's root:
-//!   rt staticlib ion
+//!   tools/build.sh ion
 //!   cargo run --offline --manifest-path bindings/rust/Cargo.toml --target-dir target/rust --example labels
 use ion_proved::{Areas, Header, Kind, Labels, Mode, Outcome, Refusal, TERMS, header_values, read_header, read_header_with};
 use std::thread;

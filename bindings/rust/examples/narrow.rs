@@ -1,6 +1,6 @@
 //! A narrow channel: a header sent with its CRC in layout 7, read back, and its CRC tried in every layout; then how many blanked samples
 //! erase a data symbol there. From the repository's root:
-//!   rt staticlib ion
+//!   tools/build.sh ion
 //!   cargo run --offline --manifest-path bindings/rust/Cargo.toml --target-dir target/rust --example narrow
 use ion_proved::{Areas, Form, Kind, Layout, Mode, Refusal, TERMS, crc, header_values, read_header, soft_values};
 

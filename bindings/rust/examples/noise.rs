@@ -1,6 +1,6 @@
 //! Local noise factors: a burst in R1 of 70 data symbols, and a generator that raises three places from symbol 20 to 49. Their factors are
 //! shown before, about and after it; every other factor is 1. Then inputs that are refused. From the repository's root:
-//!   rt staticlib ion
+//!   tools/build.sh ion
 //!   cargo run --offline --manifest-path bindings/rust/Cargo.toml --target-dir target/rust --example noise
 use ion_proved::{Kind, Mode, PLACES, Refusal, local_noise};
 

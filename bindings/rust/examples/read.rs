@@ -1,5 +1,5 @@
 //! Sends a header, reads it back from clean terms, reads two that hardly anything was heard of, and shows a refusal. From the repository's root:
-//!   rt staticlib ion
+//!   tools/build.sh ion
 //!   cargo run --offline --manifest-path bindings/rust/Cargo.toml --target-dir target/rust --example read
 use ion_proved::{Areas, Kind, Mode, Outcome, Refusal, TERMS, header_values, read_header};
 

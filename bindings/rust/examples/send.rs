@@ -1,5 +1,5 @@
 //! Sends data bits and code symbols, hears them without a fault, and reads both back. From the repository's root:
-//!   rt staticlib ion
+//!   tools/build.sh ion
 //!   cargo run --offline --manifest-path bindings/rust/Cargo.toml --target-dir target/rust --example send
 use ion_proved::{Form, Kind, Layout, Mode, Refusal, TERMS, interleave, interleave_sym, slots_of, soft_values};
 

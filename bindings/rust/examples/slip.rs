@@ -1,6 +1,6 @@
 //! A slip for the shed computer: a header is read, told with its start sample and segment in 44 bytes, and read back from them; then one
 //! byte is damaged. From the repository's root:
-//!   rt staticlib ion
+//!   tools/build.sh ion
 //!   cargo run --offline --manifest-path bindings/rust/Cargo.toml --target-dir target/rust --example slip
 use ion_proved::{Areas, Kind, Mode, Outcome, Refusal, Slip, TERMS, read_header};
 

@@ -1,7 +1,7 @@
 //! The proved receiving core of the ion HF modem, the sending halves of its interleavers, its burst slips, the segment board and local noise
 //! factors, in Rust's own manner: slices, enums and `Result` over `include/ion.h`.
 //!
-//! Build the library first: `rt staticlib ion` at the repository's root. Every function takes any input and ends. One that
+//! Build the library first: `tools/build.sh ion` at the repository's root. Every function takes any input and ends. One that
 //! answers `Err` has written nothing. No function keeps anything between calls, so any threads may call at once.
 //!
 //! **Terms.** Per symbol five rows of 52 `f32`, row 0 first, place 0 first in each ([`TERMS`]). Each is a natural logarithm: row j,
