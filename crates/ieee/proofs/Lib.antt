@@ -23,7 +23,7 @@
 -- Values.equal-whole : (f : Format) {x y : Float} {z : ℤ} → T (fits f x) → T (fits f y) → T (not (is_zero true x)) → T (not (is_zero true y)) → Whole x
 -- z → Whole y z → x ≡ y
 --     two floats of the same whole number, neither -0.0, are one value
--- Values.whole-is : (f : Format) {x : Float} {z : ℤ} → T (fits f x) → T (not (is_zero true x)) → Whole x z → nat_abs z ≤ 2 ^ prec f → x ≡ of_int f z
+-- Values.whole_is : (f : Format) {x : Float} {z : ℤ} → T (fits f x) → T (not (is_zero true x)) → Whole x z → nat_abs z ≤ 2 ^ prec f → x ≡ of_int f z
 --     so a whole float that is not -0.0 is the integer's own float
 -- Values.add-of_int : (f : Format) {y : Float} (a : ℤ) {b : ℤ} → nat_abs a ≤ 2 ^ prec f → Whole y b → nat_abs (a +ℤ b) ≤ 2 ^ prec f → add f (of_int f a)
 -- y ≡ of_int f (a +ℤ b)
@@ -54,9 +54,9 @@
 --     how large a difference is: what the bound of a pass is counted by
 --
 -- 2. Intervals (the ends are floats; at literals each test on them is `tt`)
--- Order.le-refl : (x : Float) → T (not (is_nan x)) → T (le x x)
+-- Order.le_refl : (x : Float) → T (not (is_nan x)) → T (le x x)
 --     `<=` is reflexive away from NaN
--- Order.le-trans : (x y z : Float) → T (le x y) → T (le y z) → T (le x z)
+-- Order.le_trans : (x y z : Float) → T (le x y) → T (le y z) → T (le x z)
 --     `<=` is transitive, infinities included
 -- Order.le-le→eq : (x y : Float) → T (le x y) → T (le y x) → T (eq x y)
 --     `<=` is antisymmetric up to `==`
@@ -80,7 +80,7 @@
 --     what was compared is no NaN
 -- Order.finite-not-nan : (x : Float) → T (finite x) → T (not (is_nan x))
 --     what is finite is no NaN
--- Order.above-zero : (x : Float) → T (finite x) → T (not (le x plus_zero)) → T (positive x)
+-- Order.above_zero : (x : Float) → T (finite x) → T (not (le x plus_zero)) → T (positive x)
 --     a divisor that the test `<= 0.0` let through is positive
 -- Order.positive-num : (x : Float) → T (positive x) → 0 < num x
 --     what is positive is not 0 in size
@@ -98,7 +98,7 @@
 --     a value less a greater one is at most 0.0: the argument of exp
 -- Rounds.sub-nonneg : (f : Format) (x y : Float) → T (finite x) → T (finite y) → T (le y x) → T (le plus_zero (sub f x y))
 --     a value less a smaller one is at least 0.0
--- Rounds.mul-mono : (f : Format) (x x' y : Float) → T (finite x) → T (finite x') → T (finite y) → T (le x x') → T (le plus_zero y) → T (le (mul f x y)
+-- Rounds.mul_mono : (f : Format) (x x' y : Float) → T (finite x) → T (finite x') → T (finite y) → T (le x x') → T (le plus_zero y) → T (le (mul f x y)
 -- (mul f x' y))
 --     a product grows with a factor where the other is not negative
 -- Rounds.mul-anti : (f : Format) (x x' y : Float) → T (finite x) → T (finite x') → T (finite y) → T (le x x') → T (le y plus_zero) → T (le (mul f x'
@@ -106,7 +106,7 @@
 --     a product falls with a factor where the other is not positive
 -- Rounds.mul-swap : (f : Format) (x y : Float) → T (finite x) → T (finite y) → mul f x y ≡ mul f y x
 --     a product does not mind the order
--- Rounds.div-mono : (f : Format) (x x' y : Float) → T (finite x) → T (finite x') → T (positive y) → T (le x x') → T (le (div f x y) (div f x' y))
+-- Rounds.div_mono : (f : Format) (x x' y : Float) → T (finite x) → T (finite x') → T (positive y) → T (le x x') → T (le (div f x y) (div f x' y))
 --     a quotient by a positive float grows with the dividend
 -- Rounds.div-anti : (f : Format) (x y y' : Float) → T (finite x) → T (positive y) → T (positive y') → T (le y y') → T (le plus_zero x) → T (le (div f
 -- x y') (div f x y))
@@ -120,7 +120,7 @@
 --     nor is their product: a variance times four
 -- Rounds.div-above : (f : Format) (x y : Float) → T (finite x) → T (positive y) → T (le plus_zero x) → T (le plus_zero (div f x y))
 --     nor their quotient by a positive float: the variance itself
--- Rounds.square-above : (f : Format) (x : Float) → T (finite x) → T (le plus_zero (mul f x x))
+-- Rounds.square_above : (f : Format) (x : Float) → T (finite x) → T (le plus_zero (mul f x x))
 --     nor a square, whatever its sign was
 -- Intervals.within-finite : (l h x : Float) → T (finite l) → T (finite h) → Within l h x → T (finite x)
 --     what lies between finite ends is finite
@@ -132,9 +132,9 @@
 --     the other sign: a soft bit that a scrambler turns
 -- Intervals.add-in : {a b c d x y : Float} (f : Format) (l h : Float) → Within a b x → Within c d y → T (ok_add f a b c d l h) → Within l h (add f x y)
 --     from the operands' ends to those of the sum: log-sums, the steps of exp and ln_1p
--- Intervals.sub-in : {a b c d x y : Float} (f : Format) (l h : Float) → Within a b x → Within c d y → T (ok_sub f a b c d l h) → Within l h (sub f x y)
+-- Intervals.sub_in : {a b c d x y : Float} (f : Format) (l h : Float) → Within a b x → Within c d y → T (ok_sub f a b c d l h) → Within l h (sub f x y)
 --     the same of a difference: the argument of exp, a soft bit
--- Intervals.mul-in : {a b c d x y : Float} (f : Format) (l h : Float) → Within a b x → Within c d y → T (ok_mul f a b c d l h) → Within l h (mul f x y)
+-- Intervals.mul_in : {a b c d x y : Float} (f : Format) (l h : Float) → Within a b x → Within c d y → T (ok_mul f a b c d l h) → Within l h (mul f x y)
 --     a product, by the four corners, so for all signs
 -- Intervals.div-in : {a b c d x y : Float} (f : Format) (l h : Float) → Within a b x → Within c d y → T (ok_div f a b c d l h) → Within l h (div f x y)
 --     a quotient by a divisor above zero
@@ -152,7 +152,7 @@
 --     where the value itself is
 --
 -- 3. Magnitudes (|x| ≤ n * 2 ^ k, 2 ^ -b ≤ |x|, and multiples of 2 ^ -j, for a divisor that a sum makes)
--- Sizes.upto-zero : {k : ℕ} → Upto 0 k plus_zero
+-- Sizes.upto_zero : {k : ℕ} → Upto 0 k plus_zero
 --     where a sum starts
 -- Sizes.upto-wider : {a j : ℕ} {x : Float} (b k : ℕ) → Upto a j x → a * 2 ^ j ≤ b * 2 ^ k → Upto b k x
 --     the bound may be widened, and its power changed
@@ -184,7 +184,7 @@
 --     an n-step sum of values that are not negative is not: a sum of squares
 -- Sizes.least-whole : {x : Float} {z : ℤ} → Whole x z → 0 < nat_abs z → Least 0 x
 --     a whole number that is not 0 is at least 1
--- Sizes.least-above : {b : ℕ} {l x : Float} → Least b l → T (le plus_zero l) → T (le l x) → T (finite x) → Least b x
+-- Sizes.least_above : {b : ℕ} {l x : Float} → Least b l → T (le plus_zero l) → T (le l x) → T (finite x) → Least b x
 --     what is at least a positive bound: `larger` with a literal
 -- Sizes.least-pos : {b : ℕ} {y : Float} → Least b y → 0 < num y
 --     what is at least 2 ^ -b is not 0
@@ -249,7 +249,7 @@
 -- Units.add-near : (f : Format) (h : ℕ) {x y : Float} {a b : ℤ} → Units (low f) x a → Units (low f) y b → nat_abs (a +ℤ b) ≤ 2 ^ (prec f + suc h) → T
 -- (finite (add f x y)) → Near (low f) (2 ^ h) (add f x y) (a +ℤ b)
 --     THE ROUNDING LAW: a sum within ±2 ^ k is off by at most 2 ^ (k - 25) in f32, half a unit in the last place there; h = k + 124
--- Units.near-add : (f : Format) (h : ℕ) {m n k c d : ℕ} {x y : Float} {a b : ℤ} → Upto m k x → Upto n k y → Near (low f) c x a → Near (low f) d y b →
+-- Units.near_add : (f : Format) (h : ℕ) {m n k c d : ℕ} {x y : Float} {a b : ℤ} → Upto m k x → Upto n k y → Near (low f) c x a → Near (low f) d y b →
 -- m + n < 2 ^ prec f → k + prec f ≤ emax f → (m + n) * 2 ^ (k + low f) ≤ 2 ^ (prec f + suc h) → Near (low f) (c + d + 2 ^ h) (add f x y) (a +ℤ b)
 --     a sum of values that are off already: what each is off, and what the sum loses
 -- Units.run-near : (f : Format) (k h c m d : ℕ) {a : Float} {s : ℤ} (x : ℕ → Float) (z : ℕ → ℤ) (n : ℕ) → Upto c k a → Units (low f) a s → ((i : ℕ)
