@@ -1,6 +1,8 @@
 // Replays series of slips put on a board, recorded by oracle/record.rs, which has the recipe: what is 200. The argument has a seed in its
 // lowest 32 bits, then the count of puts in 16, then a style in three bits: few segments or many, whether some puts are damaged, and
 // whether there are Likely slips. The answer is a digest: each put's number with the count that it left, then the board's bytes.
+#![tactic(auto)]
+
 ghost use Rattle.std.specs.Prelude.{◌≡◌, ◌≤◌, length};
 
 const STDIN: i32 = 0;

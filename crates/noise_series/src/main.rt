@@ -2,6 +2,8 @@
 // 32 bits, then how many rows there are in 12 bits, up to 2,049, the mode and the kind in two bits each, a style in four, and twice four
 // bits by which something is damaged (damage.rt). The answer is a digest: the number that is returned, then the bits of every factor
 // lent, which on a refusal are those from before.
+#![tactic(auto)]
+
 const STDIN: i32 = 0;
 
 mod damage;

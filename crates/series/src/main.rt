@@ -2,6 +2,8 @@
 // (crate `by_value`) and 194 + mode through the C function; 196 + mode and 198 + mode for a series of calls of the tracker,
 // likewise. The argument has a seed in its lowest 32 bits, then the count of blocks or calls in 16; one more bit puts a timing
 // out of range.
+#![tactic(auto)]
+
 const STDIN: i32 = 0;
 
 mod draws;

@@ -1,4 +1,6 @@
 // Replays the answers that oracle/record.rs has recorded, against the proved parts; the records' shape is crate `records`.
+#![tactic(auto)]
+
 ghost use Rattle.std.specs.Prelude.{◌+◌, ◌≤◌, length};
 
 const STDIN: i32 = 0;
