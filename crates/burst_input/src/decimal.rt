@@ -2,7 +2,7 @@
 ghost use Rattle.std.specs.Prelude.{◌≡◌};
 ghost use Rattle.burst_input.specs.Decimal.{with_digit, decimal_of};
 
-#[derive(Drop)]
+#[derive(Clone, Copy)]
 pub enum Decimal {
     // below 2^64
     Number(u64),

@@ -72,7 +72,7 @@ fn block(
     label: usize,
     next: &mut [f32],
 ) -> u32
-    requires scores_len { (length scores.now ≡ 16384) × (length next.old ≡ 16384) × (h < 512) × (label < 32) × (label ≡ label_of (h * 32)) }
+    requires in_range { (length scores.now ≡ 16384) × (length next.old ≡ 16384) × (h < 512) × (label < 32) × (label ≡ label_of (h * 32)) }
     requires places { Places places.now }
     ensures block { (metrics : List Float) (j : ℕ) → Rows metrics j rows.now
         → Block metrics scores.now j h next.old next.new result }
@@ -110,7 +110,7 @@ fn word(
     w: usize,
     next: &mut [f32],
 ) -> u64
-    requires scores_len { (length scores.now ≡ 16384) × (length next.old ≡ 16384) × (w < 256) }
+    requires in_range { (length scores.now ≡ 16384) × (length next.old ≡ 16384) × (w < 256) }
     requires places { Places places.now × Spaced 32 512 firsts.now }
     ensures word { (metrics : List Float) (j : ℕ) → Rows metrics j rows.now
         → Word metrics scores.now j w next.old next.new result }
@@ -139,7 +139,7 @@ pub fn step(
     decisions: &mut [u64],
 )
     requires metrics { Metrics metrics.now × Spaced 2 16 evens.now × Spaced 32 512 firsts.now }
-    requires scores_len { (length scores.now ≡ 16384) × (j < steps_in metrics.now) × (length next.old ≡ 16384)
+    requires in_range { (length scores.now ≡ 16384) × (j < steps_in metrics.now) × (length next.old ≡ 16384)
         × (length decisions.old ≡ steps_in metrics.now * 256) }
     ensures { Stepped metrics.now scores.now j next.new decisions.old decisions.new }
 {

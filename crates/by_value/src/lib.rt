@@ -20,7 +20,7 @@ pub fn fitted(mode: u8, n: usize, blocks: [Block; 64]) -> Fit
 }
 
 // A tracker and its blocks after a call, and the answer.
-#[derive(Drop)]
+#[derive(Clone, Copy)]
 pub struct Held {
     pub tracker: Tracker,
     pub blocks: [Block; 64],

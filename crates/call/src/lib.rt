@@ -15,7 +15,7 @@ use blocks::{Block, Gathered};
 use tracker::{Sample, Tracked, Tracker};
 
 // What one call makes: the next tracker, and a block, if it pushes one.
-#[derive(Drop)]
+#[derive(Clone, Copy)]
 pub struct Moved {
     pub tracker: Tracker,
     pub pushed: bool,
@@ -23,7 +23,7 @@ pub struct Moved {
 }
 
 // What one call hands back to be stored: the tracker where done, and the block at a place, past the end for nowhere.
-#[derive(Drop)]
+#[derive(Clone, Copy)]
 pub struct Stepped {
     pub next: Tracker,
     pub answer: Tracked,
@@ -33,7 +33,7 @@ pub struct Stepped {
 }
 
 // The two sums of a tracker.
-#[derive(Drop)]
+#[derive(Clone, Copy)]
 pub struct Sums {
     pub num: f64,
     pub den: f64,

@@ -1,8 +1,8 @@
 // The program of the edge list: SplitMix64's published outputs, compared and printed, and symbols by bits. The ★ entries
 // of document 01's edge list are stated in specs/Stars.antt and proved in proofs/Stars.antt.
-// The first outputs from two seeds, as published with SplitMix64.
 #![tactic(auto)]
 
+// The first outputs from two seeds, as published with SplitMix64.
 const FROM_1234567: [u64; 5] = [
     6457827717110365317,
     3203168211198807973,

@@ -15,7 +15,7 @@ ghost use Rattle.frame.specs.Format.{format_of};
 use blocks::{Block, Gathered};
 
 // The drift, or the refusal's number.
-#[derive(Drop)]
+#[derive(Clone, Copy)]
 pub enum Fit {
     Drift(f64),
     Refused(u8),

@@ -41,7 +41,7 @@ fn searched(
 ) -> HeaderAnswer
     requires { (length terms.now ≡ header_bits kind * 260) × Room kind (areas scores.old next.old start.old decisions.old)
         × Lawful labels.now }
-    ensures result_value { answer_is result ≡ document_search mode kind terms.now }
+    ensures answer { answer_is result ≡ document_search mode kind terms.now }
     ensures room { Room kind (areas scores.new next.new start.new decisions.new) }
 {
     let mut list = [0.0f32; 2048];

@@ -10,7 +10,7 @@
 --     a sum of whole floats is the integers' while that is within 2 ^ prec: the search's scores
 -- Sums.sub-whole : (f : Format) {x y : Float} {a b : ℤ} → Whole x a → Whole y b → nat_abs (a -ℤ b) ≤ 2 ^ prec f → Whole (sub f x y) (a -ℤ b)
 --     the same of a difference: scores lowered by the best, gains
--- Sums.neg-whole : {x : Float} {a : ℤ} → Whole x a → Whole (neg x) (negℤ a)
+-- Sums.neg-whole : {x : Float} {a : ℤ} → Whole x a → Whole (neg x) (neg_ℤ a)
 --     the other sign, which loses nothing
 -- Sums.lt-whole : {x y : Float} {a b : ℤ} → Whole x a → Whole y b → lt x y ≡ lt_z a b
 --     every decision `a > b` over whole floats is that of the integers
@@ -39,10 +39,10 @@
 -- i))) → P (run op a x n)
 --     what the start has, and each step keeps, the run has: bounds of exp and ln_1p
 -- Folds.run-whole : (f : Format) (b c : ℕ) (a : ℤ) (x : ℕ → Float) (z : ℕ → ℤ) (n : ℕ) → nat_abs a ≤ c → ((i : ℕ) → i < n → Whole (x i) (z i) ×
--- (nat_abs (z i) ≤ b)) → c + b * n ≤ 2 ^ prec f → (run (add f) (of_int f a) x n ≡ of_int f (run _+ℤ_ a z n)) × (nat_abs (run _+ℤ_ a z n) ≤ c + b * n)
+-- (nat_abs (z i) ≤ b)) → c + b * n ≤ 2 ^ prec f → (run (add f) (of_int f a) x n ≡ of_int f (run ◌+ℤ◌ a z n)) × (nat_abs (run ◌+ℤ◌ a z n) ≤ c + b * n)
 --     an n-step sum from any integer's float, exact, with its size
 -- Folds.run-zero : (f : Format) (b : ℕ) (x : ℕ → Float) (z : ℕ → ℤ) (n : ℕ) → ((i : ℕ) → i < n → Whole (x i) (z i) × (nat_abs (z i) ≤ b)) → b * n ≤ 2
--- ^ prec f → (run (add f) plus_zero x n ≡ of_int f (run _+ℤ_ (pos 0) z n)) × (nat_abs (run _+ℤ_ (pos 0) z n) ≤ b * n)
+-- ^ prec f → (run (add f) plus_zero x n ≡ of_int f (run ◌+ℤ◌ (pos 0) z n)) × (nat_abs (run ◌+ℤ◌ (pos 0) z n) ≤ b * n)
 --     an n-step sum from 0.0: five terms within ±b are within ±5 b; n metrics
 -- Folds.run-next : {A : Type 0} (op : A → A → A) (a : A) (x : ℕ → A) (n : ℕ) → run op a x (n + 1) ≡ op (run op a x n) (x n)
 --     a sum of any kind, one step further: a loop's turn (`run-further` with what the loop holds so far)
@@ -254,7 +254,7 @@
 --     a sum of values that are off already: what each is off, and what the sum loses
 -- Units.run-near : (f : Format) (k h c m d : ℕ) {a : Float} {s : ℤ} (x : ℕ → Float) (z : ℕ → ℤ) (n : ℕ) → Upto c k a → Units (low f) a s → ((i : ℕ)
 -- → i < n → Upto m k (x i)) → ((i : ℕ) → i < n → Near (low f) d (x i) (z i)) → c + n * m < 2 ^ prec f → k + prec f ≤ emax f → (c + n * m) * 2 ^ (k +
--- low f) ≤ 2 ^ (prec f + suc h) → Near (low f) (n * (d + 2 ^ h)) (run (add f) a x n) (run _+ℤ_ s z n)
+-- low f) ≤ 2 ^ (prec f + suc h) → Near (low f) (n * (d + 2 ^ h)) (run (add f) a x n) (run ◌+ℤ◌ s z n)
 --     an n-step sum loses as much at each step: a metric and a walk, from 0.0, and a walk counted on from a start score
 -- Units.sub-near : (f : Format) (h : ℕ) {x y : Float} {a b : ℤ} → Units (low f) x a → Units (low f) y b → nat_abs (a -ℤ b) ≤ 2 ^ (prec f + suc h) → T
 -- (finite (sub f x y)) → Near (low f) (2 ^ h) (sub f x y) (a -ℤ b)

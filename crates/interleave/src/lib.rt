@@ -123,7 +123,7 @@ fn place(n: u64, symbols: bool, message: &[u8], slots: &mut [u8])
 }
 
 // Done, or the refusal's number.
-#[derive(Drop)]
+#[derive(Clone, Copy)]
 pub enum Interleaved {
     Done,
     Refused(u8),

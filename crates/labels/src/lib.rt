@@ -44,8 +44,7 @@ pub fn row(table: &[u16], first: usize) -> [u16; 64]
     worked_out(first)
 }
 
-// The label of register r: from the table where one is lent, else by parity. Every label that the search uses comes from here, or is made
-// of two that do by exclusive or (crate butterfly).
+// The label of register r: from the table where one is lent, else by parity. Of two such crate butterfly makes others, by exclusive or.
 fn label(table: &[u16], r: usize) -> u16
     requires { Lawful table.now × (r < 32768) }
     ensures { result ≡ label_of r }

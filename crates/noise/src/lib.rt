@@ -229,7 +229,7 @@ fn sized(rows: u32, energies: usize, noise: usize, factors: usize) -> bool
 }
 
 // Done, or the refusal's number.
-#[derive(Drop)]
+#[derive(Clone, Copy)]
 pub enum Factors {
     Done,
     Refused(u8),

@@ -32,7 +32,7 @@ fn greater(a: f32, b: f32) -> f32
 // which is the metric of the register's label.
 fn path_metric(scores: &[f32], metrics: &[f32], j: usize, r: usize, label: usize) -> f32
     requires metrics { Metrics metrics.now }
-    requires scores_len { (length scores.now ≡ 16384) × (j < steps_in metrics.now) × (r < 32768) × (label ≡ label_of r) }
+    requires in_range { (length scores.now ≡ 16384) × (j < steps_in metrics.now) × (r < 32768) × (label ≡ label_of r) }
     ensures { result ≡ brings (over metrics.now) (table scores.now) j r }
 {
     scores[r / 2] + metrics[j * 32 + label]
@@ -49,7 +49,7 @@ fn states(
     next: &mut [f32],
 ) -> u64
     requires metrics { Metrics metrics.now × Lawful labels.now }
-    requires scores_len { (length scores.now ≡ 16384) × (j < steps_in metrics.now) × (w < 256) × (length next.old ≡ 16384) }
+    requires in_range { (length scores.now ≡ 16384) × (j < steps_in metrics.now) × (w < 256) × (length next.old ≡ 16384) }
     ensures { Word metrics.now scores.now j w next.old next.new result }
 {
     let row = labels::row(labels, w * 64);
@@ -78,7 +78,7 @@ fn step(
     decisions: &mut [u64],
 )
     requires metrics { Metrics metrics.now × Lawful labels.now }
-    requires scores_len { (length scores.now ≡ 16384) × (j < steps_in metrics.now) × (length next.old ≡ 16384)
+    requires in_range { (length scores.now ≡ 16384) × (j < steps_in metrics.now) × (length next.old ≡ 16384)
         × (length decisions.old ≡ steps_in metrics.now * 256) }
     ensures { Stepped metrics.now scores.now j next.new decisions.old decisions.new }
 {
@@ -99,7 +99,7 @@ fn opening(
     decisions: &mut [u64],
 )
     requires metrics { Metrics metrics.now × Lawful labels.now }
-    requires scores_len { (length scores.old ≡ 16384) × (length next.old ≡ 16384) × (length start.now ≡ 16384)
+    requires in_range { (length scores.old ≡ 16384) × (length next.old ≡ 16384) × (length start.now ≡ 16384)
         × (length decisions.old ≡ steps_in metrics.now * 256) }
     ensures { Turned metrics.now (table start.now) 2 scores.new next.new decisions.new }
 {
@@ -119,7 +119,7 @@ pub fn pass(
     decisions: &mut [u64],
 )
     requires metrics { Metrics metrics.now × Lawful labels.now }
-    requires scores_len { (length scores.old ≡ 16384) × (length next.old ≡ 16384) × (length start.now ≡ 16384)
+    requires in_range { (length scores.old ≡ 16384) × (length next.old ≡ 16384) × (length start.now ≡ 16384)
         × (length decisions.old ≡ steps_in metrics.now * 256) }
     ensures { Turned metrics.now (table start.now) (steps_in metrics.now) scores.new next.new decisions.new }
 {

@@ -137,7 +137,7 @@ fn ceiling_after(pass: u8, ceiling: f32, gain: f32) -> f32
 
 // After three passes: the best candidate, or else the last unclosed word.
 fn best_or_last(best: Best, last: Traceback, ceiling: f32) -> Found
-    ensures result_value { found_is result ≡ best_or_last (best_is best) last.word last.score }
+    ensures answer { found_is result ≡ best_or_last (best_is best) last.word last.score }
     ensures ceiling { result.ceiling ≡ ceiling }
 {
     match best {
@@ -168,7 +168,7 @@ pub fn search(
     decisions: &mut [u64],
 ) -> Found
     requires { Lent metrics.now scores.old next.old start.old decisions.old × Lawful labels.now }
-    ensures result_value { found_is result ≡ Search.search (over metrics.now) }
+    ensures answer { found_is result ≡ Search.search (over metrics.now) }
     ensures ceiling { result.ceiling ≡ Search.ceiling (over metrics.now) }
     ensures lent { Lent metrics.now scores.new next.new start.new decisions.new }
 {

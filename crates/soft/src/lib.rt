@@ -48,7 +48,7 @@ fn sized(bits: u32, terms: usize, blanked: usize, work: usize, metrics: usize, s
 }
 
 // Done, or the refusal's number.
-#[derive(Drop)]
+#[derive(Clone, Copy)]
 pub enum Soft {
     Done,
     Refused(u8),

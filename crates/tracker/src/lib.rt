@@ -18,7 +18,7 @@ pub enum Sample {
 }
 
 // Done, or the refusal's number.
-#[derive(Drop)]
+#[derive(Clone, Copy)]
 pub enum Tracked {
     Done,
     Refused(u8),

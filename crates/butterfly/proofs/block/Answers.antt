@@ -30,7 +30,7 @@ pub loop-k-init : goal.loop-k-init
 unfolding word
 loop-k-init c = (
   omega arith,
-  c.requires.scores_len.1,
+  c.requires.in_range.1,
   omega arith,
   (λ metrics j tab. record {
     done = λ z h below. absurd (lt_irrefl z (omega arith));
@@ -56,9 +56,9 @@ loop-k-preserved c =
     let k = c.loop-k.k in
     let next = c.loop-k.next in
     let i = h * 32 + 2 * k in
-    let hh = c.requires.scores_len.2 in
+    let hh = c.requires.in_range.2 in
     let hk = c.loop-k-test.true in
-    let el = c.requires.scores_len.4 in
+    let el = c.requires.in_range.4 in
     let place = c.requires.places.at k hk in
     let v = c.greater.result in
     let w = c.greater-in-loop-k.result in

@@ -12,17 +12,17 @@ use Rattle.butterfly.proofs.word.Goals.{Start}
 small : (c : Start) (h : ℕ) → h < 512 → get_or c.args.firsts.now h 0 < 32
 small c h q = subst (λ (x : ℕ). x < 32) (sym (c.requires.places.1.at h q)) (label-lt (h * 32))
 
-pub block-low-requires-clause-scores_len : goal.block-low-requires-clause-scores_len
-block-low-requires-clause-scores_len c =
+pub block-low-requires-clause-in_range : goal.block-low-requires-clause-in_range
+block-low-requires-clause-in_range c =
     let h = 2 * c.args.w in
     let q : h < 512 = omega arith in
-    (c.requires.scores_len.0, c.requires.scores_len.1, q, small (goal.at.block-low-requires-clause-scores_len c).Start h q, c.requires.places.1.at h q)
+    (c.requires.in_range.0, c.requires.in_range.1, q, small (goal.at.block-low-requires-clause-in_range c).Start h q, c.requires.places.1.at h q)
 
-pub block-high-requires-clause-scores_len : goal.block-high-requires-clause-scores_len
-block-high-requires-clause-scores_len c =
+pub block-high-requires-clause-in_range : goal.block-high-requires-clause-in_range
+block-high-requires-clause-in_range c =
     let h = 2 * c.args.w + 1 in
     let q : h < 512 = omega arith in
-    (c.requires.scores_len.0, c.block-low.ensures.size, q, small (goal.at.block-high-requires-clause-scores_len c).Start h q, c.requires.places.1.at h q)
+    (c.requires.in_range.0, c.block-low.ensures.size, q, small (goal.at.block-high-requires-clause-in_range c).Start h q, c.requires.places.1.at h q)
 
 pub returns-clause-word : goal.returns-clause-word
 returns-clause-word c =

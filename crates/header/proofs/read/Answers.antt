@@ -15,5 +15,5 @@ returns-clause-claims c =
     let length-right = terms-right a.kind _ a.scores.now a.next.now a.start.now a.decisions.now c.requires.0 in
     let found = c.searched-answer in
     λ b e. let same : found.result ≡ b = cc in
-    subst (Claims a.mode a.kind a.terms.now) (sym found.ensures.result_value ∙ ap answer_is same)
+    subst (Claims a.mode a.kind a.terms.now) (sym found.ensures.answer ∙ ap answer_is same)
     (claims a.mode a.kind a.terms.now (omega (arith, length-right)) in-range)

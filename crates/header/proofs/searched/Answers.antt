@@ -6,8 +6,8 @@ use Rattle.trellis.specs.Answer.{Outcome, answer_of}
 use Rattle.trellis.specs.Numbers.{single}
 use Rattle.header.proofs.searched.Goals as goal
 
-pub returns-clause-result_value : goal.returns-clause-result_value
-returns-clause-result_value c =
+pub returns-clause-answer : goal.returns-clause-answer
+returns-clause-answer c =
     let s = c.search-found in
     let a = c.args in
     let rows = c.rows in
@@ -15,5 +15,5 @@ returns-clause-result_value c =
     let list = rows.new.list in
     ap (λ (o : Outcome Float). record { word = s.result.word; outcome = o; ceiling = s.result.ceiling }) c.outcome_of.ensures
     ∙ ap₂ (answer_of single)
-    (s.ensures.result_value ∙ search-same a.mode a.kind a.terms.now list rows.ensures.rows rows.ensures.size n.result n.ensures)
+    (s.ensures.answer ∙ search-same a.mode a.kind a.terms.now list rows.ensures.rows rows.ensures.size n.result n.ensures)
     (s.ensures.ceiling ∙ ceiling-same a.mode a.kind a.terms.now list rows.ensures.rows rows.ensures.size n.result n.ensures)

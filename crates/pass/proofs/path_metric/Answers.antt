@@ -7,7 +7,7 @@ use Rattle.pass.proofs.path_metric.Goals.{Start}
 
 -- a label is small
 small : (c : Start) → c.args.label < 32
-small c = omega (arith, c.requires.scores_len.3, label-lt c.args.r)
+small c = omega (arith, c.requires.in_range.3, label-lt c.args.r)
 
 pub overflow_add-result : goal.overflow_add-result
 overflow_add-result c = record { fits = omega (arith, small (goal.at.overflow_add-result c).Start, c.requires.metrics.few) }

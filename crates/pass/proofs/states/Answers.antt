@@ -14,11 +14,11 @@ use Rattle.pass.specs.Areas.{table, over}
 use Rattle.trellis.specs.Search.{upper, step}
 use Rattle.pass.proofs.states.Goals as goal
 
-pub path_metric-b-requires-clause-scores_len : goal.path_metric-b-requires-clause-scores_len
-path_metric-b-requires-clause-scores_len c =
+pub path_metric-b-requires-clause-in_range : goal.path_metric-b-requires-clause-in_range
+path_metric-b-requires-clause-in_range c =
     let i = c.loop-k.k - 1 in
     let upper = ap (λ (l : ℕ). bit_xor l 31) (c.loop-k.invariant.6.at i (omega arith)) ∙ sym (label-upper (c.args.w * 64 + i) (omega arith)) in
-    (c.requires.scores_len.0, c.requires.scores_len.1, omega arith, upper)
+    (c.requires.in_range.0, c.requires.in_range.1, omega arith, upper)
 
 pub loop-k-preserved : goal.loop-k-preserved
 loop-k-preserved c =

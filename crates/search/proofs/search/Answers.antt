@@ -26,8 +26,8 @@ pub loop-best-init : goal.loop-best-init
 loop-best-init c =
     (refl, 0, refl, first c.requires.0 c.clear.ensures)
 
-pub returns-then-t-clause-result_value : goal.returns-then-t-clause-result_value
-returns-then-t-clause-result_value c =
+pub returns-then-t-clause-answer : goal.returns-then-t-clause-answer
+returns-then-t-clause-answer c =
     let inv = c.loop-best.invariant in
     let t = c.run-t.result in ap (λ (n : ℕ). record { how = closing n; word = t.word; score = t.score }) inv.2
     ∙ out inv.3 c.run-t.ensures.passed c.if-t.true
@@ -37,13 +37,13 @@ returns-then-t-clause-ceiling c =
     let inv = c.loop-best.invariant in
     let t = c.run-t.result in out-ceiling inv.3 c.run-t.ensures.passed c.if-t.true (low-is (goal.at.returns-then-t-clause-ceiling c).After-ceiling_after-low)
 
-pub returns-then-pass-eq3-clause-result_value : goal.returns-then-pass-eq3-clause-result_value
-returns-then-pass-eq3-clause-result_value c =
+pub returns-then-pass-eq3-clause-answer : goal.returns-then-pass-eq3-clause-answer
+returns-then-pass-eq3-clause-answer c =
     let best = c.scan-best in
     let inv = c.loop-best.invariant in
     let last : inv.1 ≡ 2 = omega (arith, inv.2, c.if-pass-eq3.true) in
     let so_far = counted inv.3 c.run-t.ensures.passed best.result best.ensures in
-    c.best_or_last.ensures.result_value ∙ over-all inv.3 c.run-t.ensures.passed best.result c.if-t.false last so_far
+    c.best_or_last.ensures.answer ∙ over-all inv.3 c.run-t.ensures.passed best.result c.if-t.false last so_far
 
 pub returns-then-pass-eq3-clause-ceiling : goal.returns-then-pass-eq3-clause-ceiling
 returns-then-pass-eq3-clause-ceiling c =
