@@ -31,7 +31,7 @@ pub fn nothing_for(to: Stdout) -> Waiting {
 }
 
 // Why a write has failed once these bytes are out. None is tried after the first that fails.
-fn failure(out: Waiting, s: &[u8]) -> Option<Error> {
+fn fails(out: Waiting, s: &[u8]) -> Option<Error> {
     if out.failed.is_some() {
         return out.failed;
     }
@@ -54,7 +54,7 @@ fn byte(block: &mut [u8], out: Waiting, b: u8) -> Waiting {
             to: out.to,
         };
     }
-    let failed = failure(out, block);
+    let failed = fails(out, block);
     if block.len() > 0 {
         block[0] = b;
     }
@@ -98,7 +98,7 @@ pub fn hex(block: &mut [u8], out: Waiting, n: u64, width: usize) -> Waiting {
 pub fn finish(block: &[u8], out: Waiting, what: &[u8]) {
     let n = out.bytes;
     if n <= block.len() {
-        if let Some(error) = failure(out, &block[..n]) {
+        if let Some(error) = fails(out, &block[..n]) {
             say::fail(what, &error);
         }
     }

@@ -29,6 +29,10 @@ fn with_word(asked: Asked, i: usize, is_help: bool) -> Asked {
     more
 }
 
+fn with_argument(asked: Asked, i: usize, word: &[u8]) -> Asked {
+    with_word(asked, i, is_help(word))
+}
+
 // How many bytes of argument i are at the start of `word`: 0 where it is longer than that. None where there are not so many
 // arguments.
 fn put_argument<R: Env>(rt: &R, i: usize, word: &mut [u8]) -> Option<usize>
@@ -50,7 +54,7 @@ pub fn given<R: Env>(rt: &R) -> Asked {
     let mut word = io::buffer();
     for i in 1..usize::MAX {
         match put_argument(rt, i, &mut word) {
-            Some(n) => all = with_word(all, i, is_help(&word[..n])),
+            Some(n) => all = with_argument(all, i, &word[..n]),
             None => break,
         }
     }

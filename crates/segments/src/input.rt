@@ -20,14 +20,14 @@ fn read_full<R: Read>(input: &mut R, bytes: &mut [u8]) -> usize
     done
 }
 
-// Nothing where the input has ended, where there was less than a slip; else why a read failed. One that goes on failed with the
-// system's number 0.
-fn not_ended<R: Read>(input: &mut R) -> Option<Error> {
+// Whether the input has ended, where there was less than a slip; else why a read failed, by the system's number 0 where the input
+// goes on after all.
+fn has_ended<R: Read>(input: &mut R) -> Result<(), Error> {
     let mut one = [0u8; 1];
     match input.read(&mut one) {
-        Ok(0) => None,
-        Ok(_) => Some(Error::from_raw_os_error(0)),
-        Err(error) => Some(error),
+        Ok(0) => Ok(()),
+        Ok(_) => Err(Error::from_raw_os_error(0)),
+        Err(error) => Err(error),
     }
 }
 
@@ -45,7 +45,7 @@ fn put_one(board: &mut [u8], count: &mut u32, slip: &[u8], before: u64)
 fn put_rest<R: Read>(input: &mut R, board: &mut [u8], count: &mut u32, rest: &[u8], before: u64)
     requires { before < 2 ^ 58 }
 {
-    if let Some(error) = not_ended(input) {
+    if let Err(error) = has_ended(input) {
         say::fail(b"segments: standard input", &error);
         return;
     }
