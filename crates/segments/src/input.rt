@@ -5,28 +5,41 @@ use board::Put;
 use segments_lines::refusal;
 use std::io::{Error, Read};
 
-// Reads until the bytes are full, the input ends or a read fails; the answer is how many there are.
-fn read_full<R: Read>(input: &mut R, bytes: &mut [u8]) -> usize
-    ensures { result ≤ length bytes.new }
+// What was read: how many bytes, and why there are no more where a read failed.
+#[derive(Clone, Copy)]
+struct Got {
+    bytes: usize,
+    failed: Option<Error>,
+}
+
+// Reads until the bytes are full, the input ends or a read fails.
+fn read_full<R: Read>(input: &mut R, bytes: &mut [u8]) -> Got
+    ensures { result.bytes ≤ length bytes.new }
 {
     let mut done = 0;
+    let mut failed = None;
     while done < bytes.len() {
         match input.read(&mut bytes[done..]) {
             Ok(0) => break,
             Ok(n) => done += n,
-            Err(_) => break,
+            Err(error) => {
+                failed = Some(error);
+                break;
+            }
         }
     }
-    done
+    Got {
+        bytes: done,
+        failed,
+    }
 }
 
-// Whether the input has ended, where there was less than a slip; else why a read failed, by the system's number 0 where the input
-// goes on after all.
-fn has_ended<R: Read>(input: &mut R) -> Result<(), Error> {
+// Whether the input has ended, where there was less than a slip; else why a read failed: the one before, or the one that looks again.
+fn has_ended<R: Read>(input: &mut R, before: Option<Error>) -> Result<(), Error> {
     let mut one = [0u8; 1];
     match input.read(&mut one) {
         Ok(0) => Ok(()),
-        Ok(_) => Err(Error::from_raw_os_error(0)),
+        Ok(_) => Err(before.unwrap_or(Error::from_raw_os_error(0))),
         Err(error) => Err(error),
     }
 }
@@ -42,10 +55,17 @@ fn put_one(board: &mut [u8], count: &mut u32, slip: &[u8], before: u64)
 }
 
 // What was read where there was less than a slip: nothing, or a broken slip that the input ends in.
-fn put_rest<R: Read>(input: &mut R, board: &mut [u8], count: &mut u32, rest: &[u8], before: u64)
+fn put_rest<R: Read>(
+    input: &mut R,
+    failed: Option<Error>,
+    board: &mut [u8],
+    count: &mut u32,
+    rest: &[u8],
+    before: u64,
+)
     requires { before < 2 ^ 58 }
 {
-    if let Err(error) = has_ended(input) {
+    if let Err(error) = has_ended(input, failed) {
         say::fail(b"segments: standard input", &error);
         return;
     }
@@ -59,12 +79,12 @@ fn put_next<R: Read>(input: &mut R, board: &mut [u8], count: &mut u32, before: u
     requires { before < 2 ^ 58 }
 {
     let mut slip = [0u8; 44];
-    let n = read_full(input, &mut slip);
-    if n == 44 {
+    let got = read_full(input, &mut slip);
+    if got.bytes == 44 {
         put_one(board, count, &slip, before);
         return true;
     }
-    put_rest(input, board, count, &slip[..n], before);
+    put_rest(input, got.failed, board, count, &slip[..got.bytes], before);
     false
 }
 
