@@ -3,7 +3,8 @@
 # usage: oracle/against.sh CHECKOUT [HEADERS]
 #        (from anywhere; needs rustc, objcopy, ld and ../shared; writes only below target/, and target/ of the other checkout)
 # CHECKOUT: a clone of the repository at another commit, with the same C function `ion_read_header`: of version 106 or later, since which it
-# tells the ceiling; and with tools/build.sh, which builds it. Outcome and pass are compared where that checkout has version 107 or later, since which the ceiling gives them.
+# tells the ceiling, and with tools/build.sh, which builds it. Outcome and pass are compared where that checkout has version 107 or later, since
+# which the ceiling gives them.
 # HEADERS: 1,000 of each style unless given, which takes some minutes.
 set -eu
 . "$(dirname "$0")/common.sh"

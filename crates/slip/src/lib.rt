@@ -70,6 +70,7 @@ fn word_fits(kind: u8, word: u64) -> bool
 }
 
 // Sure has its pass, 1 to 3, Likely 2 or 3, Kept and Open have 0, and nothing else is an outcome.
+#[tactic(auto, unfolding(crate::specs::Lawful::pass_goes))]
 fn pass_goes(outcome: u8, pass: u8) -> bool
     ensures { result ≡ pass_goes outcome pass }
 {
