@@ -7,8 +7,8 @@
  *
  * Buffers: a pointer must be valid for its length and aligned as its type asks; with length 0 it may be NULL. Lent buffers must
  * overlap neither each other nor an input. Nothing is kept between calls, so any threads may call at once over buffers of their own.
- * No function recurses or allocates; ion_local_noise takes 12 KiB of stack, ion_read_header and ion_read_header_with 9, ion_track_timing 6,
- * ion_fit_drift 3, the others below 2.
+ * No function recurses or allocates; ion_local_noise takes 12 KiB of stack, ion_read_header and ion_read_header_with 9 to 10, ion_track_timing
+ * and ion_fit_drift 3, the others below 2 (measured: docs/MEASUREMENTS.md).
  *
  * Terms: per symbol five rows of 52 floats, row 0 first, place 0 first in each: 260. Each is a natural logarithm: row j, place e has
  * ln(p(energy at place e | a tone j-2 places below it) / p(energy | noise alone)). Bin b of the mode's grid is place b+2. A value's
