@@ -9,16 +9,15 @@ use native.Mathlib.Omega.{arith}
 use borrow.Author.Count.{below_more}
 use borrow.Author.Tests.{leb-true, le-leb, ltb-true, ltb-false}
 use lib.Dec.{leb, ltb, leb-zero}
-use lib.Ieee.{Float, nan}
 use lib.ListN.{length, get_or, set, length-set, length-replicate}
 use lib.Seq.{get_or-set_same, get_or-set_other}
-use Rattle.ieee.specs.Whole.{plus_zero}
 use Rattle.util.specs.Choose.{choose}
 use Rattle.util.specs.Every.{every}
 use Rattle.blocks.specs.Doubles.{as_f64, within}
-use Rattle.blocks.specs.Blocks.{nowhere, half, place2_at, timing_at, before, good_at}
-use Rattle.blocks.specs.Inside.{nothing, push_of, Gathers}
+use Rattle.blocks.specs.Blocks.{nowhere, place2_at, timing_at, before, good_at}
+use Rattle.blocks.specs.Inside.{origin, point_of, nothing, push_of, Gathers}
 use Rattle.blocks.specs.declared.Block.{Block}
+use Rattle.blocks.specs.declared.Point.{Point}
 use Rattle.blocks.specs.declared.Gathered.{Gathered}
 use Rattle.util.proofs.Every.{every-next}
 
@@ -42,26 +41,25 @@ pub gathers-none : (bs : List Block) → Gathers bs 0 nothing
 unfolding every
 gathers-none bs =
     record {
-      long = (length-replicate {A = Float} 64 plus_zero, length-replicate {A = Float} 64 plus_zero);
-      places = λ i h. absurd (not-suc-le-zero h);
-      timings = λ i h. absurd (not-suc-le-zero h);
+      long = length-replicate {A = Point} 64 origin;
+      points = λ i h. absurd (not-suc-le-zero h);
       last = refl;
       top = λ most. leb-zero most;
       good = refl;
     }
 
--- one more value in a list
-one_more : (l : List Float) (i : ℕ) (v : Float) (x : ℕ → Float) → i < length l → v ≡ x i → ((k : ℕ) → k < i → get_or l k nan ≡ x k) → (k : ℕ)
-    → k < i + 1 → get_or (set l i v) k nan ≡ x k
+-- one more point in a list
+one_more : (l : List Point) (i : ℕ) (v : Point) (x : ℕ → Point) → i < length l → v ≡ x i → ((k : ℕ) → k < i → get_or l k origin ≡ x k) → (k : ℕ)
+    → k < i + 1 → get_or (set l i v) k origin ≡ x k
 one_more l i v x h e old =
-    below_more (λ (k : ℕ). get_or (set l i v) k nan ≡ x k) i (λ k less. get_or-set_other l i k v nan (ne_of_lt less) ∙ old k less) (get_or-set_same l i v nan h ∙ e)
+    below_more (λ (k : ℕ). get_or (set l i v) k origin ≡ x k) i (λ k less. get_or-set_other l i k v origin (ne_of_lt less) ∙ old k less)
+    (get_or-set_same l i v origin h ∙ e)
 
 pushed : (bs : List Block) (i : ℕ) (g : Gathered) → i < 64 → Gathers bs i g → Gathers bs (i + 1) (push_of g i (get_or bs i nowhere))
 pushed bs i g h so =
     record {
-      long = (length-set g.places i (half b2) ∙ so.long.0, length-set g.timings i (timing_at bs i) ∙ so.long.1);
-      places = one_more g.places i (half b2) (λ k. half (place2_at bs k)) (omega (arith, h, so.long.0)) refl so.places;
-      timings = one_more g.timings i (timing_at bs i) (timing_at bs) (omega (arith, h, so.long.1)) refl so.timings;
+      long = length-set g.points i (point_of (get_or bs i nowhere)) ∙ so.long;
+      points = one_more g.points i (point_of (get_or bs i nowhere)) (λ k. point_of (get_or bs k nowhere)) (omega (arith, h, so.long)) refl so.points;
       last = sym (ap (before (place2_at bs)) (add-one i));
       top = λ most. top-both g.top b2 most ∙ ap (λ (t : Bool). t && leb b2 most) (so.top most) ∙ sym (every-next (λ k. leb (place2_at bs k) most) i);
       good = (λ j. so.good j && (leb (so.last j) b2 && (leb b2 4096 && within (as_f64 4096) (timing_at bs i)))) ∙ sym (every-next (good_at bs) i);

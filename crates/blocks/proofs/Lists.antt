@@ -1,9 +1,9 @@
 -- Blocks whose fields lie in two lists: their count, block i by fields i, the answer over them, and the lists again. Assumes nothing.
-use Prim.Native.Nat.{ℕ, zero, suc, ◌+◌, ◌<◌}
+use Prim.Native.Nat.{ℕ, zero, suc, ◌<◌, min}
 use mathlib.Core.Bool.{Bool}
 use mathlib.Core.List.{List, [], ◌∷◌, map}
-use mathlib.Core.Path.{◌≡◌, refl, sym, ap, ◌∙◌}
-use native.Mathlib.Nat.{not-suc-le-zero}
+use mathlib.Core.Path.{◌≡◌, refl, sym, ap, ◌∙◌, subst}
+use native.Mathlib.Nat.{not-suc-le-zero, lt_of_lt_of_le, min-le_left, min-le_right, suc-min-suc, zero-min, min-zero}
 use native.Mathlib.Omega.{arith}
 use borrow.Author.Tests.{eq-eqb, ne_eqb}
 use lib.Dec.{ltb}
@@ -12,16 +12,26 @@ use lib.ListN.{length, get_or, set}
 use Rattle.util.specs.Choose.{choose}
 use Rattle.util.specs.Refusal.{Outcome, refused}
 use Rattle.blocks.specs.Blocks.{nowhere}
-use Rattle.blocks.specs.Inside.{push_of, Gathers}
 use Rattle.blocks.specs.Lists.{blocks_of, places_of, timings_of, over_lists}
-use Rattle.blocks.specs.declared.Gathered.{Gathered}
-use Rattle.blocks.proofs.Gathering.{gathers-more}
 
 pub blocks-length : (ps : List ℕ) (ts : List Float) → length ts ≡ length ps → length (blocks_of ps ts) ≡ length ps
 unfolding blocks_of
 blocks-length [] ts e = refl
 blocks-length (p ∷ ps) [] e = absurd (omega (arith, e))
 blocks-length (p ∷ ps) (t ∷ ts) e = ap suc (blocks-length ps ts (omega (arith, e)))
+
+-- where one list is longer, its rest makes no block
+pub count-is : (ps : List ℕ) (ts : List Float) → length (blocks_of ps ts) ≡ min (length ps) (length ts)
+unfolding blocks_of
+count-is [] ts = sym (zero-min (length ts))
+count-is (p ∷ ps) [] = sym (min-zero (length (p ∷ ps)))
+count-is (p ∷ ps) (t ∷ ts) = ap suc (count-is ps ts) ∙ sym (suc-min-suc (length ps) (length ts))
+
+-- a block's place lies in both
+pub in_both : (ps : List ℕ) (ts : List Float) (i : ℕ) → i < length (blocks_of ps ts) → (i < length ps) × (i < length ts)
+in_both ps ts i h =
+    let few : i < min (length ps) (length ts) = subst (λ (n : ℕ). i < n) (count-is ps ts) h in
+    (lt_of_lt_of_le few (min-le_left (length ps) (length ts)), lt_of_lt_of_le few (min-le_right (length ps) (length ts)))
 
 pub block_at : (ps : List ℕ) (ts : List Float) (i : ℕ) → i < length ps → i < length ts
     → get_or (blocks_of ps ts) i nowhere ≡ record { place2 = get_or ps i 0; timing = get_or ts i nan }
@@ -30,11 +40,6 @@ block_at [] ts i h l = absurd (not-suc-le-zero h)
 block_at (p ∷ ps) [] i h l = absurd (not-suc-le-zero l)
 block_at (p ∷ ps) (t ∷ ts) zero h l = refl
 block_at (p ∷ ps) (t ∷ ts) (suc i) h l = block_at ps ts i (omega (arith, h)) (omega (arith, l))
-
--- one turn: block i from its two fields
-pub one_more : (ps : List ℕ) (ts : List Float) (i : ℕ) (g r : Gathered) → i < 64 → i < length ps → i < length ts
-    → r ≡ push_of g i (record { place2 = get_or ps i 0; timing = get_or ts i nan }) → Gathers (blocks_of ps ts) i g → Gathers (blocks_of ps ts) (i + 1) r
-one_more ps ts i g r few h l e so = gathers-more (blocks_of ps ts) i g r few (e ∙ sym (ap (push_of g i) (block_at ps ts i h l))) so
 
 pub two-lengths : {A : Type 0} (mode : ℕ) (ps : List ℕ) (ts : List Float) (o : Outcome A) (k : ℕ) → (length ts ≡ length ps → ⊥)
     → k ≡ choose (ltb 1 mode) 1 4 → refused k ≡ over_lists mode ps ts o

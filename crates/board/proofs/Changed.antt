@@ -94,7 +94,7 @@ earlier-better-met x y = (refl, refl)
 -- after a slip that is at odds with none of the series, of which no two are
 after_one : (a : List ℕ) (xs : List (List ℕ)) → some_of (at_odds a) xs ≡ false → some_at_odds xs ≡ false
     → left reading_first (some a) xs ≡ left start_first (some a) xs
-unfolding left some_of some_at_odds
+unfolding left some_at_odds
 after_one a [] p q = refl
 after_one a (x ∷ xs) p q =
     let now = neither (at_odds a x) (some_of (at_odds a) xs) p in

@@ -2,6 +2,7 @@
 pub mod Rising
 pub mod Listing
 pub mod Places
+pub mod Cut
 pub mod Turn
 pub mod Answers
 pub mod Series

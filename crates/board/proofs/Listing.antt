@@ -11,7 +11,6 @@ use borrow.Author.Tests.{lt-ltb, le-ltb, eq-eqb, ne_eqb}
 use lib.Dec.{eqb, ltb}
 use lib.ListN.{get_or, set, take, drop}
 use Rattle.util.specs.Choose.{choose}
-use Rattle.util.specs.Some.{some_of}
 use Rattle.util.proofs.Choose.{chosen, not_chosen}
 use Rattle.slip.specs.Slips.{is_slip, taken}
 use Rattle.board.specs.Places.{segment_of, rising, is_listed, before, shown}
@@ -147,7 +146,7 @@ module _ (rule : Rule) (s : List ℕ) where
 
   pub put-at : (k : ℕ) (ts : List (List ℕ)) → rising k ts ≡ true
       → put_at rule s ts (before (segment_of s) ts) (is_listed (segment_of s) ts) ≡ put_in rule s ts
-  unfolding before is_listed some_of put_in
+  unfolding before is_listed put_in
   put-at k [] e = refl
   put-at k (t ∷ ts) e = by (lies (segment_of s) t) (put-at (suc (segment_of t)) ts (first k t ts e).rest)
     where

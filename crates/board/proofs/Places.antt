@@ -4,8 +4,8 @@ use mathlib.Core.List.{List, [], ◌∷◌, ◌++◌}
 use mathlib.Core.Path.{◌≡◌, refl, sym, ap, ap₂, ◌∙◌}
 use native.Mathlib.Nat.{zero-add, suc-add}
 use native.Mathlib.Omega.{arith}
-use lib.ListN.{length, get_or, set, take, drop, length-append, length-drop, take-append-drop, drop_of_length-le}
-use lib.Seq.{length-take-le, take_all, take-append-le, drop-append-le, take_at, drop_at, drop-drop, drop-cons, set_split}
+use lib.ListN.{length, get_or, set, take, drop, length-append, length-drop, take-append-drop}
+use lib.Seq.{length-take-le, take_all, take-append-le, drop-append-le, take_at, drop_at, drop-drop, set_split}
 use Rattle.board.specs.Places.{places, place_at}
 use Rattle.board.specs.Putting.{replaced, inserted}
 
@@ -27,16 +27,6 @@ pub part : (i : ℕ) (b : List ℕ) → take (44 * i + 44 - 44 * i) (drop (44 * 
 part i b =
     let size : 44 * i + 44 - 44 * i ≡ 44 = omega arith in
     ap (λ (n : ℕ). take n (drop (44 * i) b)) size
-
--- the places from i on: the next one and those behind it, and none from n on
-pub next_place : (n i : ℕ) (b : List ℕ) → i < n → drop i (places n b) ≡ place_at b i ∷ drop (suc i) (places n b)
-next_place n i b l =
-    drop-cons (places n b) i [] (omega (arith, length-places n b)) ∙ ap (λ (s : List ℕ). s ∷ drop (suc i) (places n b)) (nth-place n i b l)
-
-pub no_place : (n i : ℕ) (b : List ℕ) → n ≤ i → drop i (places n b) ≡ []
-no_place n i b l =
-    let all : length (places n b) ≤ i = omega (arith, length-places n b) in
-    drop_of_length-le (places n b) all
 
 -- the first n places, and those behind them
 pub both : (n m : ℕ) (b : List ℕ) → places (n + m) b ≡ places n b ++ places m (drop (44 * n) b)

@@ -11,7 +11,6 @@ use borrow.Author.Tests.{leb-true, le-leb, lt-ltb, le-ltb, ltb-true, ltb-false, 
 use lib.Dec.{eqb, leb, ltb, leb-suc-suc}
 use lib.ListN.{length, get_or}
 use Rattle.util.specs.Choose.{choose}
-use Rattle.util.specs.Some.{some_of}
 use Rattle.util.proofs.Choose.{chosen, not_chosen}
 use Rattle.slip.specs.Slips.{is_slip}
 use Rattle.board.specs.Places.{segment_of, rising, is_listed, before, shown}
@@ -36,20 +35,6 @@ from_first k s ss f = rw (f.slip, le-leb k (segment_of s) f.least, f.rest) refl
 -- they rise from any number on that the first one's segment is not below
 pub rising-from : (j k : ℕ) (s : List ℕ) (ss : List (List ℕ)) → rising k (s ∷ ss) ≡ true → j ≤ segment_of s → rising j (s ∷ ss) ≡ true
 rising-from j k s ss e l = let f = first k s ss e in from_first j s ss (record { slip = f.slip; least = l; rest = f.rest })
-
--- by the least segment that may come after the first, which is 0 where the first is no slip or of a segment below
-pub past_first : (k : ℕ) (s : List ℕ) (ss : List (List ℕ)) (n : ℕ)
-    → n ≡ choose (is_slip s && leb k (segment_of s)) (suc (segment_of s)) 0
-    → (n ≡ 0 → rising k (s ∷ ss) ≡ false) × ((n ≡ 0 → ⊥) → rising n ss ≡ rising k (s ∷ ss))
-unfolding rising
-past_first k s ss n e = by (is_slip s) (leb k (segment_of s)) e
-  where
-    by : (t u : Bool) → n ≡ choose (t && u) (suc (segment_of s)) 0
-        → (n ≡ 0 → (t && (u && rising (suc (segment_of s)) ss)) ≡ false)
-        × ((n ≡ 0 → ⊥) → rising n ss ≡ (t && (u && rising (suc (segment_of s)) ss)))
-    by true true e = ((λ z. absurd (omega (arith, e, z))), (λ z. ap (λ (m : ℕ). rising m ss) e))
-    by true false e = ((λ z. refl), (λ z. absurd (z e)))
-    by false u e = ((λ z. refl), (λ z. absurd (z e)))
 
 -- ---- the slip that is shown
 
@@ -76,7 +61,7 @@ is_some none = false
 is_some (some s) = true
 
 pub listed-shown : (g : ℕ) (ss : List (List ℕ)) → is_listed g ss ≡ is_some (shown g ss)
-unfolding is_listed some_of shown
+unfolding is_listed shown
 listed-shown g [] = refl
 listed-shown g (s ∷ ss) = by (eqb (segment_of s) g) (listed-shown g ss)
   where
@@ -136,7 +121,7 @@ abbrev pub stands_at : ℕ → List (List ℕ) → ℕ → Bool
 stands_at g ss p = ltb p (length ss) && eqb (segment_of (get_or ss p [])) g
 
 pub at_place : (g k : ℕ) (ss : List (List ℕ)) → rising k ss ≡ true → is_listed g ss ≡ stands_at g ss (before g ss)
-unfolding is_listed some_of before
+unfolding is_listed before
 at_place g k [] e = refl
 at_place g k (s ∷ ss) e = by (lies g s) (at_place g (suc (segment_of s)) ss (first k s ss e).rest)
   where

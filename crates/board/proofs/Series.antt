@@ -10,7 +10,6 @@ use borrow.Author.Tests.{lt-ltb, le-ltb, eqb-true, eqb-false, eq-eqb}
 use lib.Dec.{eqb, ltb}
 use lib.ListN.{length}
 use Rattle.util.specs.Choose.{choose}
-use Rattle.util.specs.Some.{some_of}
 use Rattle.util.specs.Refusal.{Outcome, refused}
 use Rattle.util.proofs.Choose.{chosen, not_chosen, by-case}
 use Rattle.slip.specs.Slips.{is_slip}
@@ -103,7 +102,7 @@ or-true false = refl
 
 -- a segment that is among the first stays so
 kept : (n h : ℕ) (seen : List ℕ) (xs : List (List ℕ)) → has h seen ≡ true → has h (firsts n seen xs) ≡ true
-unfolding firsts has some_of
+unfolding firsts has
 kept n h seen [] e = e
 kept n h seen (x ∷ xs) e =
     by-case (λ (l : List ℕ). has h l ≡ true) (is_slip x && (not (has (segment_of x) seen) && ltb (length seen) n))
@@ -144,7 +143,7 @@ listed-put rule b x h g d = ap (is_listed h) d.slips ∙ by (eqb (segment_of x) 
     by false q = listed-other rule x h (listed b) (eqb-false (segment_of x) h q)
 
 answered : (rule : Rule) (b : Board) (seen : List ℕ) (xs : List (List ℕ)) → Good b → Seen b seen → Answered rule b seen xs
-unfolding ran answers admitted those firsts answer_by has some_of
+unfolding ran answers admitted those firsts answer_by has
 answered rule b seen [] g s = record { by-firsts = refl; let-in = refl; are = λ h. sym (s.same h) }
 answered rule b seen (x ∷ xs) g s = by (turn rule b x g) (λ more. answered rule (put rule b x) more xs (good-put rule b x g))
   where
@@ -251,7 +250,7 @@ unfolding places rising
 empty-good bytes e = record { size = e; good = good-board bytes 0 zero-le refl }
 
 empty-seen : (bytes : List ℕ) → Seen (empty bytes) []
-unfolding has is_listed some_of places
+unfolding has is_listed places
 empty-seen bytes = record { same = λ h. refl; many = refl }
 
 module _ (rule : Rule) (bytes : List ℕ) (xs : List (List ℕ)) (g : Good (empty bytes)) where

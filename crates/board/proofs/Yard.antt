@@ -136,7 +136,7 @@ module _ (rule : Rule) (o : Orders rule) where
         → some_of (λ y. not (rule (taken y) (taken l))) ys ≡ false → some_of (λ y. rule (taken l) (taken y)) zs ≡ false → Left a xs l
 
   from : (a : List ℕ) (xs : List (List ℕ)) (l : List ℕ) → left rule (some a) xs ≡ some l → Left a xs l
-  unfolding left some_of
+  unfolding left
   from a [] l e =
       let same : a ≡ l = cc in
       itself same refl
@@ -155,7 +155,7 @@ module _ (rule : Rule) (o : Orders rule) where
           (ap₂ ◌||◌ (ap not (o.onward (taken a) (taken l) (taken x) up p)) over) last
 
   pub first-of-best : (xs : List (List ℕ)) (l : List ℕ) → left rule none xs ≡ some l → FirstOfBest rule xs l
-  unfolding left some_of
+  unfolding left
   first-of-best [] l e = let never : ◌≡◌ {A = ℕ} 0 1 = cc in absurd (omega arith)
   first-of-best (x ∷ xs) l e = by (from x xs l e)
     where

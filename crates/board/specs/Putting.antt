@@ -2,16 +2,10 @@
 -- every rule.
 use Rattle.std.specs.Prelude.{ℕ, suc, ◌-◌, ◌*◌, not, ◌&&◌, List, [], ◌∷◌, ◌++◌, eqb, length, take, drop}
 use Rattle.util.specs.Choose.{choose}
-use Rattle.util.specs.Refusal.{Cause, Outcome, refused, accepted, outcome, afterwards}
+use Rattle.util.specs.Refusal.{Cause, Outcome, outcome, afterwards}
 use Rattle.slip.specs.Slips.{taken, is_slip}
 use Rattle.board.specs.Places.{places, place_at, segment_of, good_board, is_listed, before}
 use Rattle.board.specs.Rules.{Rule}
-use Rattle.board.specs.declared.Put.{Put}
-use Rattle.board.specs.declared.Put.TheVariants.{Done, Refused}
-
-abbrev pub put_is : Put → Outcome Unit
-put_is Done = accepted tt
-put_is (Refused k) = refused k
 
 -- 4 for a board of another length than 512 places; 13 for a broken board or a broken slip; 14 for a slip of an unlisted segment
 -- where 512 are listed

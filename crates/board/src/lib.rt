@@ -3,65 +3,59 @@
 // in proofs/Series.antt under any rule, in proofs/Yard.antt under the one that is in force).
 #![tactic(auto)]
 
-ghost use Rattle.std.specs.Prelude.{suc, ◌-◌, ◌*◌, ◌^◌, ◌≤◌, ◌<◌, true, ◌&&◌, ◌++◌, ◌≡◌, leb, length, take};
+ghost use Rattle.std.specs.Prelude.{Some, None, suc, ◌-◌, ◌*◌, ◌^◌, ◌≤◌, ◌<◌, true, ◌&&◌, ◌++◌, ◌≡◌, leb, length, take};
 ghost use Rattle.util.specs.Choose.{choose};
+ghost use Rattle.util.specs.Refusal.{meaning};
 ghost use Rattle.outcome.specs.Outcome.{outcome_is};
 ghost use Rattle.slip.specs.Slips.{is_slip, taken};
 ghost use Rattle.board.specs.Places.{places, place_at, segment_of, rising, good_board, is_listed, before};
 ghost use Rattle.board.specs.Rules as Rules;
 ghost use Rattle.board.specs.Rules.{reading_first, rank_of};
-ghost use Rattle.board.specs.Putting.{put_is, putting, replaced, inserted, board_after, count_after};
+ghost use Rattle.board.specs.Putting.{putting, replaced, inserted, board_after, count_after};
 
-// The slip was put, or judged and not taken; or the refusal's number.
-#[derive(Clone, Copy)]
-pub enum Put {
-    Done,
-    Refused(u8),
-}
+use outcome::Outcome;
+use slip::Fields;
+use util::refusal::Refusal;
 
 // ---- the yard's rules
 
 // The best reading first. This is no outcome byte.
-fn rank(outcome: outcome::Outcome) -> u8
+fn rank(outcome: Outcome) -> u8
     ensures { result ≡ Rules.rank (outcome_is outcome) }
 {
     match outcome {
-        outcome::Outcome::Sure(_, _) => 0,
-        outcome::Outcome::Likely(_, _) => 1,
-        outcome::Outcome::Kept(_) => 2,
-        outcome::Outcome::Open(_) => 3,
+        Outcome::Sure(_, _) => 0,
+        Outcome::Likely(_, _) => 1,
+        Outcome::Kept(_) => 2,
+        Outcome::Open(_) => 3,
     }
 }
 
-fn rank_of(f: slip::Fields) -> u8
+fn rank_of(f: Fields) -> u8
     ensures { result ≡ rank_of f }
 {
     rank(outcome::from_numbers(f.outcome, f.pass, f.score))
 }
 
 // Whether the new slip replaces the listed one: the reading is tried first, the start only between equal readings.
-fn replaces(listed: slip::Fields, new: slip::Fields) -> bool
+fn replaces(listed: Fields, new: Fields) -> bool
     ensures { result ≡ reading_first listed new }
 {
-    let listed_start = listed.start;
-    let new_start = new.start;
     let listed_rank = rank_of(listed);
     let new_rank = rank_of(new);
     if new_rank == listed_rank {
-        return listed_start < new_start;
+        listed.start < new.start
+    } else {
+        new_rank < listed_rank
     }
-    new_rank < listed_rank
 }
 
-// ---- what is lent
+// ---- what is lent: a board and its count are two parameters, as the entry and C have them
 
 fn is_slip(bytes: &[u8]) -> bool
     ensures { result ≡ is_slip bytes.now }
 {
-    match slip::read_fields(bytes) {
-        slip::FieldsRead::Good(_) => true,
-        slip::FieldsRead::Refused(_) => false,
-    }
+    slip::read_fields(bytes).is_ok()
 }
 
 fn segment_of(place: &[u8]) -> u64
@@ -72,20 +66,18 @@ fn segment_of(place: &[u8]) -> u64
     wire::number_at(place, 42, 2)
 }
 
-// The least segment that may come after a place's; 0 where the place holds no slip, or one of a segment below `least`.
-fn least_after(place: &[u8], least: u64) -> u64
+// The least segment that may come after a place's; none where the place holds no slip, or one of a segment below `least`.
+fn least_after(place: &[u8], least: u64) -> Option<u64>
     requires { length place.now ≡ 44 }
     ensures { result ≡ choose (is_slip place.now && leb least (segment_of place.now))
-        (suc (segment_of place.now)) 0 }
+        (Some (suc (segment_of place.now))) None }
 {
-    if !is_slip(place) {
-        return 0;
-    }
     let segment = segment_of(place);
-    if segment < least {
-        return 0;
+    if is_slip(place) && least <= segment {
+        Some(segment + 1)
+    } else {
+        None
     }
-    segment + 1
 }
 
 // Whether so many places hold slips, segments rising.
@@ -93,13 +85,11 @@ fn is_rising(board: &[u8], count: usize) -> bool
     requires { 44 * count ≤ length board.now }
     ensures { result ≡ rising 0 (places count board.now) }
 {
-    let mut least = 0u64;
-    for i in 0..count {
-        let at = 44 * i;
-        let end = at + 44;
-        least = least_after(&board[at..end], least);
-        if least == 0 {
-            return false;
+    let mut least = 0;
+    for place in board[..44 * count].chunks_exact(44) {
+        match least_after(place, least) {
+            Some(next) => least = next,
+            None => return false,
         }
     }
     true
@@ -110,10 +100,8 @@ fn place_for(board: &[u8], count: usize, segment: u64) -> usize
     requires { 44 * count ≤ length board.now }
     ensures { result ≡ before segment (places count board.now) }
 {
-    for i in 0..count {
-        let at = 44 * i;
-        let end = at + 44;
-        if segment_of(&board[at..end]) >= segment {
+    for (i, place) in board[..44 * count].chunks_exact(44).enumerate() {
+        if segment_of(place) >= segment {
             return i;
         }
     }
@@ -126,12 +114,7 @@ fn is_at(board: &[u8], count: usize, place: usize, segment: u64) -> bool
         × ((rising 0 (places count board.now) ≡ true) × (place ≡ before segment (places count board.now))) }
     ensures { result ≡ is_listed segment (places count board.now) }
 {
-    if place >= count {
-        return false;
-    }
-    let at = 44 * place;
-    let end = at + 44;
-    segment_of(&board[at..end]) == segment
+    place < count && segment_of(&board[44 * place..44 * place + 44]) == segment
 }
 
 // ---- what is written
@@ -141,21 +124,15 @@ fn fill(place: &mut [u8], slip: &[u8])
     requires { (length place.old ≡ 44) × (length slip.now ≡ 44) }
     ensures { place.new ≡ slip.now }
 {
-    for i in 0..44 {
-        place[i] = slip[i];
-    }
+    place.copy_from_slice(slip);
 }
 
-// The places of a part each take what stood in the one before, from the back; the first stays.
+// The places of a part each take what stood in the one before; the first stays.
 fn move_up(part: &mut [u8])
     requires { 44 ≤ length part.old }
     ensures { part.new ≡ take 44 part.old ++ take (length part.old - 44) part.old }
 {
-    let mut i = part.len();
-    while i > 44 {
-        i -= 1;
-        part[i] = part[i - 44];
-    }
+    part.copy_within(..part.len() - 44, 44);
 }
 
 // A slip comes before the places of a part; the last of them is lost.
@@ -194,9 +171,9 @@ fn insert_at(board: &mut [u8], count: usize, place: usize, slip: &[u8])
 // ---- the entry
 
 // A slip put on a board, where neither is broken.
-fn put_in(board: &mut [u8], count: &mut u32, slip: &[u8]) -> Put
+fn put_in(board: &mut [u8], count: &mut u32, slip: &[u8]) -> Result<(), Refusal>
     requires { (length board.old ≡ 44 * 512) × ((good_board board.old count.old ≡ true) × (is_slip slip.now ≡ true)) }
-    ensures answer { put_is result ≡ putting board.old count.old slip.now }
+    ensures answer { meaning result ≡ putting board.old count.old slip.now }
     ensures lent { board.new ≡ board_after reading_first board.old count.old slip.now }
     ensures counted { count.new ≡ count_after board.old count.old slip.now }
 {
@@ -205,34 +182,34 @@ fn put_in(board: &mut [u8], count: &mut u32, slip: &[u8]) -> Put
     let place = place_for(board, listed, segment);
     if is_at(board, listed, place, segment) {
         judge(board, place, slip);
-        return Put::Done;
+        return Ok(());
     }
     if listed == 512 {
-        return Put::Refused(14);
+        return Err(Refusal::FullBoard);
     }
     insert_at(board, listed, place, slip);
     *count += 1;
-    Put::Done
+    Ok(())
 }
 
 // Public entry: puts a slip on a board (document 02, #105). Places past the count are neither read nor, but for the one that a new
 // segment fills, written.
-pub fn put_slip(board: &mut [u8], count: &mut u32, slip: &[u8]) -> Put
-    ensures answer { put_is result ≡ putting board.old count.old slip.now }
+pub fn put_slip(board: &mut [u8], count: &mut u32, slip: &[u8]) -> Result<(), Refusal>
+    ensures answer { meaning result ≡ putting board.old count.old slip.now }
     ensures lent { board.new ≡ board_after reading_first board.old count.old slip.now }
     ensures counted { count.new ≡ count_after board.old count.old slip.now }
 {
     if board.len() != 22528 {
-        return Put::Refused(4);
+        return Err(Refusal::Length);
     }
     if *count > 512 {
-        return Put::Refused(13);
+        return Err(Refusal::Slip);
     }
     if !is_rising(board, *count as usize) {
-        return Put::Refused(13);
+        return Err(Refusal::Slip);
     }
     if !is_slip(slip) {
-        return Put::Refused(13);
+        return Err(Refusal::Slip);
     }
     put_in(board, count, slip)
 }

@@ -1,7 +1,9 @@
 // What a put of a series is drawn as: four words, by which its slip is spelt and its damage chosen.
 ghost use Rattle.std.specs.Prelude.{◌≡◌, ◌≤◌, length};
 
-#[derive(Clone, Copy)]
+use records::mixed;
+
+#[derive(Clone, Copy, Debug, PartialEq, Eq)]
 pub struct Turn {
     pub x: u64,
     pub y: u64,
@@ -12,10 +14,6 @@ pub struct Turn {
     pub likely: bool,
     // which damage; none from 8 on
     pub case: u64,
-}
-
-pub fn mixed(h: u64, x: u64) -> u64 {
-    probe::probe_mix64(h ^ x)
 }
 
 fn case_of(style: u64, w: u64) -> u64 {
@@ -138,7 +136,7 @@ pub fn lent(d: Turn) -> usize
 pub fn count(d: Turn, own: u32) -> u32 {
     let case = d.case;
     match case {
-        3 => std::num::wrapping_add_u32(own, 1),
+        3 => own.wrapping_add(1),
         4 => 513 + 65535 * (((d.w >> 8) % 2) as u32),
         _ => own,
     }

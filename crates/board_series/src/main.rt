@@ -5,18 +5,17 @@
 
 ghost use Rattle.std.specs.Prelude.{◌≡◌, ◌≤◌, length};
 
-const STDIN: i32 = 0;
-
 mod draws;
 
-use draws::{Turn, drawn, mixed};
+use draws::{Turn, drawn};
+use records::mixed;
 
 // Byte `at` of a list is xored.
 fn flip(list: &mut [u8], at: usize, with: u8)
     ensures { length list.new ≡ length list.old }
 {
     if at < list.len() {
-        list[at] = list[at] ^ with;
+        list[at] ^= with;
     }
 }
 
@@ -69,15 +68,8 @@ fn put_one(d: Turn, board: &mut [u8], count: &mut u32) -> u64
     let number = put_string(d, board, &mut lent);
     mend(d, board, number);
     *count = draws::count_after(d, *count, lent);
-    (number as u64) + 256 * (lent as u64)
-}
-
-fn fill(seed: u64, board: &mut [u8])
-    ensures { length board.new ≡ length board.old }
-{
-    for i in 0..board.len() {
-        board[i] = (mixed(seed, i as u64) % 256) as u8;
-    }
+    // by `u64::from` the proof would lack that both are of 32 bits
+    number as u64 + 256 * lent as u64
 }
 
 fn put_all(seed: u64, n: usize, style: u64, board: &mut [u8]) -> u64
@@ -85,22 +77,9 @@ fn put_all(seed: u64, n: usize, style: u64, board: &mut [u8]) -> u64
     ensures { length board.new ≡ 22528 }
 {
     let mut h = seed;
-    let mut count = 0u32;
+    let mut count = 0;
     for j in 0..n {
-        let told = put_one(drawn(seed, j, style), board, &mut count);
-        h = mixed(h, told);
-    }
-    h
-}
-
-fn wide(x: u8) -> u64 {
-    x as u64
-}
-
-fn digest(begun: u64, list: &[u8]) -> u64 {
-    let mut h = begun;
-    for i in 0..list.len() {
-        h = mixed(h, wide(list[i]));
+        h = mixed(h, put_one(drawn(seed, j, style), board, &mut count));
     }
     h
 }
@@ -108,9 +87,9 @@ fn digest(begun: u64, list: &[u8]) -> u64 {
 fn replayed(seed: u64, n: usize, style: u64, board: &mut [u8]) -> u64
     requires { length board.old ≡ 22528 }
 {
-    fill(seed, board);
+    records::fill(board, |i| (mixed(seed, i as u64) % 256) as u8);
     let h = put_all(seed, n, style, board);
-    digest(h, board)
+    records::digest(h, board)
 }
 
 fn answer(what: u8, asked: u64) -> u64 {
@@ -122,21 +101,6 @@ fn answer(what: u8, asked: u64) -> u64 {
     replayed(asked % 0x1_0000_0000, n, (asked >> 48) % 8, &mut board)
 }
 
-// How many of the records agree.
-fn agreeing(s: &[u8]) -> u64 {
-    let mut same: u64 = 0;
-    for i in 0..records::count(s) {
-        let record = records::nth(s, i);
-        if records::agrees(record, answer(record.what, record.asked)) {
-            same = std::num::wrapping_add_u64(same, 1);
-        }
-    }
-    same
-}
-
-fn main() {
-    let mut buffer = io::large_buffer();
-    let n = io::read_full(STDIN, &mut buffer);
-    let s = &buffer[..n];
-    records::tally(agreeing(s), records::count(s));
+fn main(rt: HostRuntime) {
+    records::replay(&mut rt.stdin(), rt.stdout(), answer);
 }

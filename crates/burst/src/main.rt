@@ -4,21 +4,22 @@
 // --help` prints the usage.
 // Everything is worked out before anything is printed. Bad input gets one line on standard error and an empty standard
 // output. It ends with status 0 whatever it finds: `burst FILE | grep .` ends with 1 where nothing was printed.
-// It needs 3 MB of stack, most of it the lists of the longest burst (it runs under `ulimit -s 2950` and not under 2900).
+// It needs 3 MB of stack, most of it the lists of the longest burst (it runs under `ulimit -s 2800` and not under 2775).
 #![tactic(auto)]
 
 ghost use Rattle.std.specs.Prelude.{◌≤◌, ◌≡◌, length};
 
-use burst_file::format::{Head, HeadRead, Problem};
+use burst_file::format::Head;
 use burst_file::verdict;
-use burst_input::arguments::Asked;
-use burst_input::file::Input;
-use burst_input::{arguments, file, problem};
-use burst_text::output;
-use burst_text::output::Waiting;
-use std::env::Env;
-use std::fs::Files;
-use std::io::{Read, Stdout};
+use burst_input::arguments::{Asked, Options, Place};
+use burst_input::problem::Failure;
+use burst_input::{arguments, file};
+use burst_text::output::Blocks;
+use header::HeaderAnswer;
+use slip::Slip;
+use std::io;
+use std::io::{Print, Read, Stderr, Stdout, Write};
+use util::refusal::Refusal;
 
 // How many words of decisions a header's passes fill.
 fn decision_words(kind: u8) -> usize
@@ -28,7 +29,7 @@ fn decision_words(kind: u8) -> usize
 }
 
 // The header read, over areas of its own.
-fn header_read(mode: u8, kind: u8, terms: &[f32]) -> header::HeaderRead {
+fn header_read(mode: u8, kind: u8, terms: &[f32]) -> Result<HeaderAnswer, Refusal> {
     let mut scores = [0.0f32; 16384];
     let mut next = [0.0f32; 16384];
     let mut start = [0.0f32; 16384];
@@ -52,11 +53,11 @@ fn soft_values(
     counts: &[u32],
     metrics: &mut [f32],
     soft: &mut [f32],
-) -> soft::Soft {
+) -> Result<(), Refusal> {
     let mut work = metric_zeros();
     let n = metrics.len();
     if n > 65536 {
-        return soft::Soft::Refused(4);
+        return Err(Refusal::Length);
     }
     soft::soft_values(
         head.mode,
@@ -73,150 +74,89 @@ fn soft_values(
     )
 }
 
-fn show_outcome(block: &mut [u8], out: Waiting, outcome: outcome::Outcome) -> Waiting {
-    match outcome {
-        outcome::Outcome::Sure(score, pass) => burst_lines::sure(block, out, score, pass),
-        outcome::Outcome::Likely(score, pass) => burst_lines::likely(block, out, score, pass),
-        outcome::Outcome::Kept(score) => burst_lines::kept(block, out, score),
-        outcome::Outcome::Open(score) => burst_lines::undecided(block, out, score),
-    }
-}
-
-// The six lines of every burst.
-fn show_answer(
-    block: &mut [u8],
-    to: Stdout,
+// The header's slip. None is refused: every answer of the header read makes a lawful one (crate slip, proofs/Answers.antt).
+fn show_slip<W: Write>(
+    out: &mut W,
     head: Head,
-    answer: header::HeaderAnswer,
-    counts: &[u32],
-) -> Waiting {
-    let outcome = answer.outcome;
-    let out = burst_lines::header(block, output::nothing_for(to), head.kind, answer.word);
-    let out = show_outcome(block, out, outcome);
-    let out = burst_lines::ceiling(block, out, answer.ceiling);
-    let good = verdict::crc_is_good(head.mode, head.kind, head.layout, answer.word);
-    let out = burst_lines::crc(block, out, good);
-    let erased = verdict::erased_count(head.layout, head.window, counts);
-    burst_lines::symbols(block, out, counts.len(), erased)
-}
-
-// The header's slip where it was asked for. None is refused: every answer of the header read makes a lawful one (crate slip,
-// proofs/Answers.antt).
-fn with_slip(
-    block: &mut [u8],
-    out: Waiting,
-    asked: Asked,
-    head: Head,
-    answer: header::HeaderAnswer,
-) -> Waiting {
-    if !asked.slip {
-        return out;
-    }
+    answer: HeaderAnswer,
+    place: Place,
+) -> io::Result<()> {
     let mut bytes = [0u8; 44];
-    let outcome = answer.outcome;
-    let told = slip::Slip {
+    let told = Slip {
         mode: head.mode,
         kind: head.kind,
         word: answer.word,
-        outcome,
-        start: asked.start,
-        segment: asked.segment,
+        outcome: answer.outcome,
+        start: place.start,
+        segment: place.segment,
     };
     match slip::write_slip(told, &mut bytes) {
-        slip::Written::Done => burst_lines::slip(block, out, &bytes),
-        slip::Written::Refused(_) => out,
+        Ok(()) => burst_lines::slip(out, &bytes),
+        Err(_) => Ok(()),
     }
 }
 
-// The soft bits where they were asked for.
-fn with_soft_bits(block: &mut [u8], out: Waiting, asked: Asked, soft: &[f32]) -> Waiting {
-    if asked.soft {
-        return burst_lines::soft_bits(block, out, soft);
-    }
-    out
-}
-
-// The metrics likewise.
-fn with_metrics(block: &mut [u8], out: Waiting, asked: Asked, metrics: &[f32]) -> Waiting {
-    if asked.metrics {
-        return burst_lines::metrics(block, out, metrics);
-    }
-    out
-}
-
-fn show_burst(
-    to: Stdout,
+// The six lines of every burst, and what is asked for beside them.
+fn show<W: Write>(
+    out: &mut W,
     head: Head,
-    asked: Asked,
-    answer: header::HeaderAnswer,
+    options: Options,
+    answer: HeaderAnswer,
     counts: &[u32],
     metrics: &[f32],
     soft: &[f32],
-) {
-    let mut space = io::large_buffer();
-    let block: &mut [u8] = &mut space;
-    let out = show_answer(block, to, head, answer, counts);
-    let out = with_slip(block, out, asked, head, answer);
-    let out = with_soft_bits(block, out, asked, soft);
-    let out = with_metrics(block, out, asked, metrics);
-    output::finish(block, out, b"burst: standard output");
+) -> io::Result<()> {
+    burst_lines::header(out, head.kind, answer.word)?;
+    burst_lines::outcome(out, answer.outcome)?;
+    burst_lines::ceiling(out, answer.ceiling)?;
+    let is_good = verdict::crc_is_good(head.mode, head.kind, head.layout, answer.word);
+    burst_lines::crc(out, is_good)?;
+    let erased = verdict::erased_count(head.layout, head.window, counts);
+    burst_lines::symbols(out, counts.len(), erased)?;
+    if let Some(place) = options.slip {
+        show_slip(out, head, answer, place)?;
+    }
+    if options.soft {
+        burst_lines::soft_bits(out, soft)?;
+    }
+    if options.metrics {
+        burst_lines::metrics(out, metrics)?;
+    }
+    Ok(())
 }
 
-// The soft values of a burst whose header is answered, and then all that is to be shown.
-fn shown(
+// The same by way of a block.
+fn print(
     to: Stdout,
     head: Head,
-    asked: Asked,
-    answer: header::HeaderAnswer,
-    data: &[f32],
+    options: Options,
+    answer: HeaderAnswer,
     counts: &[u32],
-    metrics: &mut [f32],
-    soft: &mut [f32],
-) -> Problem {
-    match soft_values(head, data, counts, metrics, soft) {
-        soft::Soft::Refused(k) => Problem::Refused(k),
-        soft::Soft::Done => {
-            show_burst(to, head, asked, answer, counts, metrics, soft);
-            Problem::None
-        }
-    }
-}
-
-// A burst whose terms and counts are read.
-fn answered(
-    to: Stdout,
-    head: Head,
-    asked: Asked,
-    first: &[f32],
-    data: &[f32],
-    counts: &[u32],
-    metrics: &mut [f32],
-    soft: &mut [f32],
-) -> Problem {
-    match header_read(head.mode, head.kind, first) {
-        header::HeaderRead::Refused(k) => Problem::Refused(k),
-        header::HeaderRead::Answer(answer) => {
-            shown(to, head, asked, answer, data, counts, metrics, soft)
-        }
-    }
+    metrics: &[f32],
+    soft: &[f32],
+) -> io::Result<()> {
+    let mut block = [0u8; 65536];
+    let mut out = Blocks::new(&mut block, to);
+    show(&mut out, head, options, answer, counts, metrics, soft)?;
+    out.flush()
 }
 
 // A burst whose head is good, over lists of its lengths.
-fn worked<R: Read>(
-    input: &mut Input<R>,
+fn shown<R: Read>(
+    input: &mut R,
     to: Stdout,
     head: Head,
-    asked: Asked,
+    options: Options,
     first: &mut [f32],
     data: &mut [f32],
     counts: &mut [u32],
     metrics: &mut [f32],
     soft: &mut [f32],
-) -> Problem {
-    match file::filled(input, first, data, counts) {
-        Problem::None => answered(to, head, asked, first, data, counts, metrics, soft),
-        p => p,
-    }
+) -> Result<(), Failure> {
+    file::fill(input, first, data, counts)?;
+    let answer = header_read(head.mode, head.kind, first)?;
+    soft_values(head, data, counts, metrics, soft)?;
+    print(to, head, options, answer, counts, metrics, soft).map_err(Failure::Output)
 }
 
 // Zeros for the terms of 2,048 data symbols. The promise is the length, which the check would otherwise count out.
@@ -240,7 +180,7 @@ fn header_terms(kind: u8) -> usize
 }
 
 // The lists, at their greatest lengths.
-fn burst<R: Read>(input: &mut Input<R>, to: Stdout, head: Head, asked: Asked) -> Problem
+fn burst<R: Read>(input: &mut R, to: Stdout, head: Head, options: Options) -> Result<(), Failure>
     requires { head.bits ≤ 10240 }
 {
     let mut first = [0.0f32; 16640];
@@ -251,11 +191,11 @@ fn burst<R: Read>(input: &mut Input<R>, to: Stdout, head: Head, asked: Asked) ->
     let bits = head.bits as usize;
     let n = header_terms(head.kind);
     let m = (bits + 4) / 5;
-    worked(
+    shown(
         input,
         to,
         head,
-        asked,
+        options,
         &mut first[..n],
         &mut data[..260 * m],
         &mut counts[..m],
@@ -264,49 +204,36 @@ fn burst<R: Read>(input: &mut Input<R>, to: Stdout, head: Head, asked: Asked) ->
     )
 }
 
-fn read_burst<R: Read>(input: &mut Input<R>, to: Stdout, asked: Asked) -> Problem {
-    match file::read_head(input) {
-        HeadRead::Bad(p) => p,
-        HeadRead::Good(head) => {
-            // a good head has no more; `burst` requires it
-            if head.bits > 10240 {
-                return Problem::Refused(2);
-            }
-            burst(input, to, head, asked)
-        }
+// The burst that a reader has.
+fn read_burst<R: Read>(mut input: R, to: Stdout, options: Options) -> Result<(), Failure>
+where
+    R: Drop,
+{
+    let head = file::read_head(&mut input)?;
+    // a good head has no more; `burst` requires it
+    if head.bits > 10240 {
+        return Err(Failure::from(Refusal::TooMany));
     }
+    burst(&mut input, to, head, options)
 }
 
-// The burst that a reader has, and what was wrong with it.
-fn read_from<R: Read + Drop>(from: R, to: Stdout, asked: Asked) {
-    let mut input = Input::new(from);
-    let p = read_burst(&mut input, to, asked);
-    problem::report(p, input.failure());
-}
-
-fn read_file<R: Env + Files>(rt: &R, i: usize, to: Stdout, asked: Asked) {
-    if let Some(from) = file::opened(rt, i) {
-        read_from(from, to, asked);
+fn told(to: Stderr, shown: Result<(), Failure>) {
+    if let Err(failure) = shown {
+        let _ = to.println(format_args!("burst: {failure}"));
     }
 }
 
 fn main(rt: HostRuntime) {
-    let asked = arguments::given(&rt);
-    if asked.unknown > 0 {
-        arguments::refuse(&rt, asked.unknown);
-        return;
+    match arguments::given(&rt) {
+        Err(misuse) => arguments::refuse(&rt, rt.stderr(), misuse),
+        Ok(Asked::Help) => arguments::help(rt.stdout(), rt.stderr()),
+        Ok(Asked::Burst(options)) => match options.file {
+            Some(i) => {
+                if let Some(from) = file::opened(&rt, rt.stderr(), i) {
+                    told(rt.stderr(), read_burst(from, rt.stdout(), options));
+                }
+            }
+            None => told(rt.stderr(), read_burst(rt.stdin(), rt.stdout(), options)),
+        },
     }
-    if asked.misplaced || asked.wanted > 0 {
-        arguments::refuse_numbers();
-        return;
-    }
-    if asked.help {
-        arguments::help(rt.stdout());
-        return;
-    }
-    if asked.file > 0 {
-        read_file(&rt, asked.file, rt.stdout(), asked);
-        return;
-    }
-    read_from(rt.stdin(), rt.stdout(), asked);
 }

@@ -9,19 +9,16 @@ ghost use Rattle.util.specs.Table.{Stored};
 ghost use Rattle.burst_file.specs.Numbers.{word_of, word_at, float_at};
 ghost use Rattle.burst_file.specs.Head.{unused_of, layout_of, fields_of, head_of};
 
+use std::fmt;
+use util::refusal::Refusal;
+
 // IONB, its first letter lowest.
 const MAGIC: u32 = 0x424E_4F49;
-
-fn wide(x: u8) -> u32
-    ensures { result ≡ x }
-{
-    x as u32
-}
 
 fn word(a: u8, b: u8, c: u8, d: u8) -> u32
     ensures { result ≡ word_of a b c d }
 {
-    wide(a) + 256 * wide(b) + 65536 * wide(c) + 16777216 * wide(d)
+    u32::from(a) + 256 * u32::from(b) + 65536 * u32::from(c) + 16777216 * u32::from(d)
 }
 
 // Inside: the u32 from a place on.
@@ -43,23 +40,51 @@ pub fn put_terms(bytes: &[u8], terms: &mut [f32], at: usize)
 }
 
 // What can be wrong with a burst file.
-#[derive(Clone, Copy)]
+#[derive(Clone, Copy, Debug, PartialEq, Eq)]
 pub enum Problem {
-    None,
-    // a read failed; who read knows why
-    Unreadable,
     Short,
     Long,
     Magic,
     Version,
     Form,
     Zeros,
-    // the papers' number
-    Refused(u8),
+    Refused(Refusal),
+}
+
+impl fmt::Display for Problem {
+    fn fmt<W: fmt::Write>(&self, f: &mut fmt::Formatter<W>) -> fmt::Result {
+        match self {
+            Problem::Short => f.write_str("the input ends before the burst does"),
+            Problem::Long => f.write_str("the input goes on after the burst"),
+            Problem::Magic => f.write_str("the input does not begin with IONB"),
+            Problem::Version => f.write_str("a version other than 0 and 1"),
+            Problem::Form => f.write_str("a form other than 0 and 1"),
+            Problem::Zeros => f.write_str("bytes 8 to 11 (version 1: 9 to 11) are not zeros"),
+            Problem::Refused(refusal) => write!(
+                f,
+                "refused: {}, {}",
+                refusal.number(),
+                cause(*refusal)
+            ),
+        }
+    }
+}
+
+// The papers' words for a refusal that a burst can get (document 01, 'When nothing is done', and document 02, #102).
+fn cause(refusal: Refusal) -> &'static str {
+    match refusal {
+        Refusal::Unnamed => "mode or kind not named",
+        Refusal::TooMany => "more than 10,240 data bits",
+        Refusal::Window => "window not of the mode",
+        Refusal::Terms => "a term not finite or beyond 1,000,000",
+        Refusal::Blanked => "a blanked count above 255 windows",
+        Refusal::Layout => "a layout not from 1 to 8",
+        _ => "document 01 has the table",
+    }
 }
 
 // What the head says of the burst.
-#[derive(Clone, Copy)]
+#[derive(Clone, Copy, Debug, PartialEq, Eq)]
 pub struct Head {
     pub mode: u8,
     pub kind: u8,
@@ -67,12 +92,6 @@ pub struct Head {
     pub symbols: bool,
     pub window: u32,
     pub bits: u32,
-}
-
-#[derive(Clone, Copy)]
-pub enum HeadRead {
-    Good(Head),
-    Bad(Problem),
 }
 
 // What of the four bytes from 8 on must be 0: version 1 has the layout in the first of them.
@@ -96,22 +115,22 @@ fn layout_of(version: u8, byte: u8) -> u8
 }
 
 // The fields of a head whose bytes are in order, by the papers' first four refusals.
-fn fields(mode: u8, kind: u8, layout: u8, form: u8, window: u32, bits: u32) -> HeadRead
+fn fields(mode: u8, kind: u8, layout: u8, form: u8, window: u32, bits: u32) -> Result<Head, Problem>
     ensures { result ≡ fields_of mode kind layout form window bits }
 {
     if !frame::is_named(mode, kind) {
-        return HeadRead::Bad(Problem::Refused(1));
+        return Err(Problem::Refused(Refusal::Unnamed));
     }
     if !frame::is_layout(layout) {
-        return HeadRead::Bad(Problem::Refused(12));
+        return Err(Problem::Refused(Refusal::Layout));
     }
     if bits > 10240 {
-        return HeadRead::Bad(Problem::Refused(2));
+        return Err(Problem::Refused(Refusal::TooMany));
     }
     if !frame::has_window(mode, window) {
-        return HeadRead::Bad(Problem::Refused(3));
+        return Err(Problem::Refused(Refusal::Window));
     }
-    HeadRead::Good(Head {
+    Ok(Head {
         mode,
         kind,
         layout,
@@ -122,21 +141,21 @@ fn fields(mode: u8, kind: u8, layout: u8, form: u8, window: u32, bits: u32) -> H
 }
 
 // Inside: the head in a file's first 20 bytes.
-pub fn head_of(s: &[u8]) -> HeadRead
+pub fn head_of(s: &[u8]) -> Result<Head, Problem>
     requires { length s.now ≡ 20 }
     ensures { result ≡ head_of s.now }
 {
     if word_at(s, 0) != MAGIC {
-        return HeadRead::Bad(Problem::Magic);
+        return Err(Problem::Magic);
     }
     if s[4] > 1 {
-        return HeadRead::Bad(Problem::Version);
+        return Err(Problem::Version);
     }
     if s[7] > 1 {
-        return HeadRead::Bad(Problem::Form);
+        return Err(Problem::Form);
     }
     if unused(s[4], word_at(s, 8)) != 0 {
-        return HeadRead::Bad(Problem::Zeros);
+        return Err(Problem::Zeros);
     }
     fields(
         s[5],

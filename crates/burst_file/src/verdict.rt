@@ -20,12 +20,6 @@ pub fn bits_of(word: u64) -> [u8; 64]
     out
 }
 
-fn wide(x: u8) -> u64
-    ensures { result ≡ x }
-{
-    x as u64
-}
-
 // The 16 bits from a place on, the first one highest.
 fn last_sixteen(bits: &[u8], at: usize) -> u64
     requires { at + 16 ≤ length bits.now }
@@ -33,7 +27,7 @@ fn last_sixteen(bits: &[u8], at: usize) -> u64
 {
     let mut sum: u64 = 0;
     for k in 0..16usize {
-        sum = 2 * sum + wide(bits[at + k]);
+        sum = 2 * sum + u64::from(bits[at + k]);
     }
     sum
 }
@@ -41,10 +35,7 @@ fn last_sixteen(bits: &[u8], at: usize) -> u64
 fn agrees(mode: u8, kind: u8, layout: u8, bits: &[u8], last: u64) -> bool
     ensures { result ≡ equals (crc_answer mode kind layout bits.now) last }
 {
-    match frame::crc(mode, kind, layout, bits) {
-        frame::Crc16::Value(crc) => crc as u64 == last,
-        frame::Crc16::Refused(_) => false,
-    }
+    frame::crc(mode, kind, layout, bits).is_ok_and(|crc| u64::from(crc) == last)
 }
 
 // Inside: whether the header's last 16 bits, the first one highest, are the CRC of the bits before, whose start is of mode,

@@ -2,45 +2,26 @@
 ghost use Rattle.std.specs.Prelude.{◌≡◌};
 ghost use Rattle.burst_input.specs.Decimal.{with_digit, decimal_of};
 
-#[derive(Clone, Copy)]
-pub enum Decimal {
-    // below 2^64
-    Number(u64),
-    // anything else
-    Other,
-}
-
 // A digit more behind n, where it is a digit and there is room for it.
-fn with_digit(n: u64, byte: u8) -> Decimal
+fn with_digit(n: u64, byte: u8) -> Option<u64>
     ensures { result ≡ with_digit n byte }
 {
-    if byte < b'0' {
-        return Decimal::Other;
+    if !byte.is_ascii_digit() {
+        return None;
     }
-    let digit = (byte - b'0') as u64;
-    if digit > 9 {
-        return Decimal::Other;
-    }
-    if n > (0xFFFF_FFFF_FFFF_FFFF - digit) / 10 {
-        return Decimal::Other;
-    }
-    Decimal::Number(10 * n + digit)
+    n.checked_mul(10)?.checked_add(u64::from(byte - b'0'))
 }
 
-// Inside: the number that digits alone make, one at least.
-pub fn read(word: &[u8]) -> Decimal
+// Inside: the number below 2^64 that digits alone make, one at least. `parse` would take a plus before them too.
+pub fn read(word: &[u8]) -> Option<u64>
     ensures { result ≡ decimal_of word.now }
 {
-    if word.len() == 0 {
-        return Decimal::Other;
+    if word.is_empty() {
+        return None;
     }
-    let mut sum = 0u64;
-    for i in 0..word.len() {
-        let more = with_digit(sum, word[i]);
-        match more {
-            Decimal::Number(n) => sum = n,
-            Decimal::Other => return Decimal::Other,
-        }
+    let mut sum = 0;
+    for byte in word {
+        sum = with_digit(sum, *byte)?;
     }
-    Decimal::Number(sum)
+    Some(sum)
 }

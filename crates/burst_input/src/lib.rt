@@ -1,5 +1,5 @@
-// What the program `burst` is given: its arguments (`arguments`) with their numbers (`decimal`), a burst file (`file`), and what
-// was wrong (`problem`).
+// What the program `burst` is given: its arguments (`arguments`) with their numbers (`decimal`), a burst file (`file`), and why
+// it is not shown (`problem`).
 #![tactic(auto)]
 
 pub mod arguments;

@@ -1,119 +1,84 @@
-// The lines that the program `burst` prints of a burst (docs/BURST-FORMAT.md).
+// The lines that the program `burst` prints of a burst (docs/BURST-FORMAT.md), and an outcome in words, which `segments` prints too.
 #![tactic(auto)]
 
-use burst_text::figures::float;
-use burst_text::output::{Waiting, counted, hex, text};
+use burst_text::figures::{Figures, Word};
+use outcome::Outcome;
+use std::fmt::{Display, Formatter};
+use std::io::Write;
+use std::{fmt, io};
 
-// Inside: the header's word, 12 digits for the 48 bits of a HeaderOnly or Cue header, 16 for the 64 of a Data header.
-pub fn header(block: &mut [u8], out: Waiting, kind: u8, word: u64) -> Waiting {
-    let out = text(block, out, b"header ");
-    let out = hex(block, out, word, if kind == 1 { 16 } else { 12 });
-    text(block, out, b"\n")
+// An outcome without its score: its name, and the pass that a Sure and a Likely have.
+#[derive(Clone, Copy)]
+pub struct Name(pub Outcome);
+
+impl Display for Name {
+    fn fmt<W: fmt::Write>(&self, f: &mut Formatter<W>) -> fmt::Result {
+        match self.0 {
+            Outcome::Sure(_, pass) => write!(f, "Sure, pass {pass}"),
+            Outcome::Likely(_, pass) => write!(f, "Likely, pass {pass}"),
+            Outcome::Kept(_) => f.write_str("Kept"),
+            Outcome::Open(_) => f.write_str("Open"),
+        }
+    }
 }
 
-fn scored(block: &mut [u8], out: Waiting, x: f32) -> Waiting {
-    let out = text(block, out, b"score ");
-    let out = float(block, out, x);
-    text(block, out, b"\n")
+// Inside: the score that an outcome carries.
+pub fn score(outcome: Outcome) -> Figures {
+    match outcome {
+        Outcome::Sure(score, _) => Figures(score),
+        Outcome::Likely(score, _) => Figures(score),
+        Outcome::Kept(score) => Figures(score),
+        Outcome::Open(score) => Figures(score),
+    }
+}
+
+// Inside: the header's word.
+pub fn header<W: Write>(out: &mut W, kind: u8, word: u64) -> io::Result<()> {
+    writeln!(out, "header {}", Word { kind, word })
+}
+
+// Inside: the outcome and the score.
+pub fn outcome<W: Write>(out: &mut W, outcome: Outcome) -> io::Result<()> {
+    writeln!(out, "outcome {}", Name(outcome))?;
+    writeln!(out, "score {}", score(outcome))
 }
 
 // Inside: the ceiling.
-pub fn ceiling(block: &mut [u8], out: Waiting, x: f32) -> Waiting {
-    let out = text(block, out, b"ceiling ");
-    let out = float(block, out, x);
-    text(block, out, b"\n")
-}
-
-// Inside: the outcome Sure, the pass and the score.
-pub fn sure(block: &mut [u8], out: Waiting, score: f32, pass: u8) -> Waiting {
-    let out = counted(block, out, b"outcome Sure, pass ", pass as u64);
-    let out = text(block, out, b"\n");
-    scored(block, out, score)
-}
-
-// Inside: the outcome Likely, the pass and the score.
-pub fn likely(block: &mut [u8], out: Waiting, score: f32, pass: u8) -> Waiting {
-    let out = counted(block, out, b"outcome Likely, pass ", pass as u64);
-    let out = text(block, out, b"\n");
-    scored(block, out, score)
-}
-
-// Inside: the outcome Kept and the score.
-pub fn kept(block: &mut [u8], out: Waiting, score: f32) -> Waiting {
-    let out = text(block, out, b"outcome Kept\n");
-    scored(block, out, score)
-}
-
-// Inside: the outcome Open and the score.
-pub fn undecided(block: &mut [u8], out: Waiting, score: f32) -> Waiting {
-    let out = text(block, out, b"outcome Open\n");
-    scored(block, out, score)
+pub fn ceiling<W: Write>(out: &mut W, x: f32) -> io::Result<()> {
+    writeln!(out, "ceiling {}", Figures(x))
 }
 
 // Inside: the verdict on the CRC.
-pub fn crc(block: &mut [u8], out: Waiting, is_good: bool) -> Waiting {
-    if is_good {
-        return text(block, out, b"CRC good\n");
-    }
-    text(block, out, b"CRC bad\n")
+pub fn crc<W: Write>(out: &mut W, is_good: bool) -> io::Result<()> {
+    writeln!(out, "CRC {}", if is_good { "good" } else { "bad" })
 }
 
 // Inside: how many data symbols there are, and how many of them are erased.
-pub fn symbols(block: &mut [u8], out: Waiting, all: usize, erased: u64) -> Waiting {
-    let out = counted(block, out, b"data symbols ", all as u64);
-    let out = counted(block, out, b", erased ", erased);
-    text(block, out, b"\n")
-}
-
-fn wide(x: u8) -> u64 {
-    x as u64
-}
-
-fn slip_bytes(block: &mut [u8], out: Waiting, bytes: &[u8]) -> Waiting {
-    let mut now = out;
-    for i in 0..bytes.len() {
-        now = hex(block, now, wide(bytes[i]), 2);
-    }
-    now
+pub fn symbols<W: Write>(out: &mut W, all: usize, erased: u64) -> io::Result<()> {
+    writeln!(out, "data symbols {all}, erased {erased}")
 }
 
 // Inside: a slip's bytes, two digits each.
-pub fn slip(block: &mut [u8], out: Waiting, bytes: &[u8]) -> Waiting {
-    let out = text(block, out, b"slip ");
-    let out = slip_bytes(block, out, bytes);
-    text(block, out, b"\n")
-}
-
-fn soft_bit(block: &mut [u8], out: Waiting, i: usize, x: f32) -> Waiting {
-    let out = counted(block, out, b"soft ", i as u64);
-    let out = text(block, out, b": ");
-    let out = float(block, out, x);
-    text(block, out, b"\n")
+pub fn slip<W: Write>(out: &mut W, bytes: &[u8]) -> io::Result<()> {
+    write!(out, "slip ")?;
+    for byte in bytes {
+        write!(out, "{byte:02x}")?;
+    }
+    writeln!(out)
 }
 
 // Inside: a line for each soft bit.
-pub fn soft_bits(block: &mut [u8], out: Waiting, list: &[f32]) -> Waiting {
-    let mut now = out;
-    for i in 0..list.len() {
-        now = soft_bit(block, now, i, list[i]);
+pub fn soft_bits<W: Write>(out: &mut W, list: &[f32]) -> io::Result<()> {
+    for (i, x) in list.iter().enumerate() {
+        writeln!(out, "soft {i}: {}", Figures(*x))?;
     }
-    now
+    Ok(())
 }
 
-// Metric i is value i mod 32 of symbol i / 32.
-fn metric(block: &mut [u8], out: Waiting, i: usize, x: f32) -> Waiting {
-    let out = counted(block, out, b"metric ", (i / 32) as u64);
-    let out = counted(block, out, b" ", (i % 32) as u64);
-    let out = text(block, out, b": ");
-    let out = float(block, out, x);
-    text(block, out, b"\n")
-}
-
-// Inside: a line for each metric.
-pub fn metrics(block: &mut [u8], out: Waiting, list: &[f32]) -> Waiting {
-    let mut now = out;
-    for i in 0..list.len() {
-        now = metric(block, now, i, list[i]);
+// Inside: a line for each metric. Metric i is value i mod 32 of symbol i / 32.
+pub fn metrics<W: Write>(out: &mut W, list: &[f32]) -> io::Result<()> {
+    for (i, x) in list.iter().enumerate() {
+        writeln!(out, "metric {} {}: {}", i / 32, i % 32, Figures(*x))?;
     }
-    now
+    Ok(())
 }

@@ -1,55 +1,55 @@
-// A float as figures.
-use crate::output::{Waiting, hex, number, text};
-
-fn three_digits(block: &mut [u8], out: Waiting, x: u64) -> Waiting {
-    let out = number(block, out, x / 100);
-    let out = number(block, out, x / 10 % 10);
-    number(block, out, x % 10)
-}
-
-fn thousandths(block: &mut [u8], out: Waiting, n: u64) -> Waiting {
-    let out = number(block, out, n / 1000);
-    let out = text(block, out, b".");
-    three_digits(block, out, n % 1000)
-}
+// A float as figures, and a header's word.
+use std::fmt;
+use std::fmt::{Display, Formatter};
 
 // A number of 0 and above, rounded to three places where its thousandths are below 2^64: a slip's score may be any finite f32.
-fn places(block: &mut [u8], out: Waiting, x: f64) -> Waiting {
-    let rounded = x * 1000.0 + 0.5;
-    if rounded > -1.0 {
-        if rounded < 18446744073709551616.0 {
-            return thousandths(block, out, std::num::truncating_f64_to_u64(rounded));
+#[derive(Clone, Copy)]
+struct Places(f64);
+
+impl Display for Places {
+    fn fmt<W: fmt::Write>(&self, f: &mut Formatter<W>) -> fmt::Result {
+        // a half away from zero, where `{:.3}` has the even one
+        let rounded = self.0 * 1000.0 + 0.5;
+        if -1.0 < rounded && rounded < 18446744073709551616.0 {
+            let n = std::num::saturating_f64_to_u64(rounded);
+            return write!(f, "{}.{:03}", n / 1000, n % 1000);
+        }
+        f.write_str("1.8e16 or beyond")
+    }
+}
+
+// Three places after the point, then the pattern, by which nothing is lost. A minus stands before a negative zero too. No NaN comes
+// here: the score of an answer or a slip, metrics and soft bits are finite.
+#[derive(Clone, Copy)]
+pub struct Figures(pub f32);
+
+impl Display for Figures {
+    fn fmt<W: fmt::Write>(&self, f: &mut Formatter<W>) -> fmt::Result {
+        let x = self.0;
+        if x.is_nan() {
+            return f.write_str("NaN");
+        }
+        let sign = if x.is_sign_negative() { "-" } else { "" };
+        let places = Places(f64::from(x.abs()));
+        let pattern = x.to_bits();
+        write!(f, "{sign}{places} ({pattern:08x})")
+    }
+}
+
+// A header's word: 12 digits for the 48 bits of a HeaderOnly or Cue header, 16 for the 64 of a Data header.
+#[derive(Clone, Copy, Debug, PartialEq, Eq)]
+pub struct Word {
+    pub kind: u8,
+    pub word: u64,
+}
+
+impl Display for Word {
+    fn fmt<W: fmt::Write>(&self, f: &mut Formatter<W>) -> fmt::Result {
+        let word = self.word;
+        if self.kind == 1 {
+            write!(f, "{word:016x}")
+        } else {
+            write!(f, "{word:012x}")
         }
     }
-    text(block, out, b"1.8e16 or beyond")
-}
-
-fn wide(x: u32) -> u64 {
-    x as u64
-}
-
-// The pattern of a float's bits, or 2^32 for a NaN, at which to_bits is not defined.
-fn pattern_of(x: f32) -> u64 {
-    if x == x {
-        return wide(f32::to_bits(x));
-    }
-    0x1_0000_0000
-}
-
-fn signed(block: &mut [u8], out: Waiting, is_negative: bool, x: f32) -> Waiting {
-    if is_negative {
-        let out = text(block, out, b"-");
-        return places(block, out, std::num::f32_to_f64_with_nan(-x));
-    }
-    places(block, out, std::num::f32_to_f64_with_nan(x))
-}
-
-// Inside: three places after the point, then the pattern, by which nothing is lost. A minus stands before a negative zero
-// too. No NaN comes here: the score of an answer or a slip, metrics and soft bits are finite.
-pub fn float(block: &mut [u8], out: Waiting, x: f32) -> Waiting {
-    let pattern = pattern_of(x);
-    let out = signed(block, out, pattern >= 0x8000_0000, x);
-    let out = text(block, out, b" (");
-    let out = hex(block, out, pattern, 8);
-    text(block, out, b")")
 }

@@ -1,4 +1,4 @@
-// What the programs `burst` and `segments` print with: text and numbers by way of a lent block (`output`), and a float (`figures`).
+// What the programs `burst` and `segments` print with: text by way of a lent block (`output`), and a float (`figures`).
 #![tactic(auto)]
 
 pub mod figures;

@@ -55,13 +55,6 @@ fn decision(a: f32, b: f32, place: u32) -> u32
     if b > a { place } else { 0 }
 }
 
-// Inside: the survivor's path metric.
-pub fn greater(a: f32, b: f32) -> f32
-    ensures { result ≡ choose (lt a b) b a }
-{
-    if b > a { b } else { a }
-}
-
 // The 32 states of block h, two a turn, whose first register has this label; the answer has their decisions. An even state's lower
 // register and the odd one's upper one have one label, the two others that with all bits turned.
 fn block(
@@ -83,8 +76,7 @@ fn block(
     let other = 16 * (31 - label);
     let s = h * 32;
     let mut word = 0u32;
-    let mut k = 0usize;
-    while k < 16 {
+    for k in 0..16usize {
         let x = scores[p + k];
         let y = scores[p + 8192 + k];
         let u = rows[one + k];
@@ -93,10 +85,9 @@ fn block(
         let b = y + v;
         let c = x + v;
         let e = y + u;
-        next[s + 2 * k] = greater(a, b);
-        next[s + 2 * k + 1] = greater(c, e);
+        next[s + 2 * k] = pass::greater(a, b);
+        next[s + 2 * k + 1] = pass::greater(c, e);
         word = word + decision(a, b, places[k]) + 2 * decision(c, e, places[k]);
-        k += 1;
     }
     word
 }
@@ -145,9 +136,7 @@ pub fn step(
 {
     let places = places();
     let rows = rows(metrics, j, evens);
-    let mut w = 0usize;
-    while w < 256 {
+    for w in 0..256usize {
         decisions[j * 256 + w] = word(scores, &rows, &places, firsts, w, next);
-        w += 1;
     }
 }

@@ -3,16 +3,17 @@
 #![tactic(auto)]
 
 ghost use Rattle.std.specs.Prelude.{◌≡◌, ◌≤◌, take};
-ghost use Rattle.fit.specs.Fit.{meaning, fit_answer};
+ghost use Rattle.util.specs.Refusal.{meaning};
+ghost use Rattle.fit.specs.Fit.{fit_answer};
 ghost use Rattle.tracker.specs.Rule as Rule;
 ghost use Rattle.drift.specs.Entry.{tracker_after, shifts_after, blocks_after};
 
 use blocks::Block;
-use fit::Fit;
-use tracker::{Sample, Tracked, Tracker};
+use tracker::{Sample, Tracker};
+use util::refusal::Refusal;
 
 // Inside: the fit over the first n of 64 blocks.
-pub fn fitted(mode: u8, n: usize, blocks: [Block; 64]) -> Fit
+pub fn fitted(mode: u8, n: usize, blocks: [Block; 64]) -> Result<f64, Refusal>
     requires { n ≤ 64 }
     ensures { meaning result ≡ fit_answer mode (take n blocks) }
 {
@@ -24,12 +25,12 @@ pub fn fitted(mode: u8, n: usize, blocks: [Block; 64]) -> Fit
 pub struct Held {
     pub tracker: Tracker,
     pub blocks: [Block; 64],
-    pub answer: Tracked,
+    pub answer: Result<(), Refusal>,
 }
 
 // Inside: one call of the tracker.
 pub fn tracked(mode: u8, t: Tracker, shifts: &mut [i32], list: [Block; 64], s: Sample) -> Held
-    ensures { (Rule.meaning result.answer ≡ Rule.track_answer mode t shifts.old list s)
+    ensures { (meaning result.answer ≡ Rule.track_answer mode t shifts.old list s)
         × (result.tracker ≡ tracker_after mode t shifts.old list s)
         × (shifts.new ≡ shifts_after mode t shifts.old list s)
         × (result.blocks ≡ blocks_after mode t shifts.old list s) }

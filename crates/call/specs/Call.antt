@@ -1,5 +1,5 @@
 -- Document 01, 'Drift': one call of the tracker, what it makes and what it stores. The order of the operations is the Rust's (`track_timing`).
-use Rattle.std.specs.Prelude.{ℕ, ◌+◌, ◌-◌, ◌*◌, true, false, List, ltb, eqb, ℤ, pos, ◌+ℤ◌, ◌-ℤ◌, get_or, set, Float}
+use Rattle.std.specs.Prelude.{ℕ, ◌+◌, ◌-◌, ◌*◌, List, Option, Some, None, ltb, eqb, ℤ, pos, ◌+ℤ◌, ◌-ℤ◌, get_or, set, Float}
 use Rattle.std.specs.Float.{binary64}
 use Rattle.std.specs.Float.Ieee.{of_int, neg, lt}
 use Rattle.ieee.specs.Whole.{plus_zero, run}
@@ -7,7 +7,6 @@ use Rattle.ieee.specs.Within.{larger, clamp}
 use Rattle.util.specs.Choose.{choose}
 use Rattle.frame.specs.Format.{format_of}
 use Rattle.blocks.specs.Doubles.{◌⊕◌, ◌⊖◌, ◌⊗◌, ◌⊘◌, as_f64, fraction}
-use Rattle.blocks.specs.Blocks.{nowhere}
 use Rattle.blocks.specs.declared.Block.{Block}
 use Rattle.fit.specs.Fit.{fit_blocks}
 use Rattle.tracker.specs.Rule.{block_length, waiting}
@@ -53,13 +52,13 @@ followed t num den drift count =
 
 -- no block pushed
 abbrev pub unpushed : Tracker → Moved
-unpushed t = record { tracker = t; pushed = false; block = nowhere }
+unpushed t = record { tracker = t; pushed = None }
 
 -- where the block ends: pushed if something was heard, and both sums start again
 abbrev pub ended : Tracker → Float → Block → (Block → Float) → Moved
 ended t den b fitted =
     choose (lt plus_zero den)
-    (record { tracker = followed t plus_zero plus_zero (fitted b) (t.blocks + 1); pushed = true; block = b })
+    (record { tracker = followed t plus_zero plus_zero (fitted b) (t.blocks + 1); pushed = Some b })
     (unpushed (followed t plus_zero plus_zero t.drift t.blocks))
 
 -- call c = n + 1 from 3 on judges symbol c - 3, with the sums that hold then. `fitted b` is the drift with block b pushed.
@@ -87,5 +86,10 @@ fitted_of mode t blocks b = fit_blocks (format_of mode).symbol (t.blocks + 1) (s
 abbrev pub call : ℕ → Tracker → List ℤ → List Block → Sample → Moved
 call mode t shifts blocks s = moved mode t (stored_of t shifts) s (fitted_of mode t blocks)
 
+-- a block, if there is one, at a place of a list
+abbrev pub put_at : List Block → ℕ → Option Block → List Block
+put_at bs at None = bs
+put_at bs at (Some b) = set bs at b
+
 abbrev pub pushed_onto : Tracker → List Block → Moved → List Block
-pushed_onto t blocks r = choose r.pushed (set blocks t.blocks r.block) blocks
+pushed_onto t blocks r = put_at blocks t.blocks r.pushed

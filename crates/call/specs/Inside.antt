@@ -1,17 +1,14 @@
 -- Inside: a call of the tracker by what is gathered of its blocks (crate `blocks`). Only contracts of inside functions cite what is here.
-use Rattle.std.specs.Prelude.{ℕ, ◌≤◌, ◌<◌, List, ◌≡◌, ℤ, pos, nat_abs, length, get_or, set}
-use Rattle.util.specs.Choose.{choose}
-use Rattle.util.specs.Refusal.{afterwards}
-use Rattle.blocks.specs.declared.Block.{Block}
+use Rattle.std.specs.Prelude.{ℕ, ◌≤◌, ◌<◌, List, ◌≡◌, ℤ, pos, nat_abs, length, get_or, Result, Ok}
+use Rattle.util.specs.Refusal.{Outcome, refused, accepted, meaning, afterwards}
+use Rattle.util.specs.declared.refusal.Refusal.{Refusal}
 use Rattle.blocks.specs.declared.Gathered.{Gathered}
 use Rattle.fit.specs.Inside.{fitted_in}
-use Rattle.tracker.specs.Rule.{meaning}
 use Rattle.tracker.specs.Inside.{answer_in}
 use Rattle.tracker.specs.declared.Sample.{Sample}
 use Rattle.tracker.specs.declared.Tracker.{Tracker}
-use Rattle.call.specs.Call.{moved, stored_of, pushed_onto}
+use Rattle.call.specs.Call.{moved, stored_of}
 use Rattle.call.specs.declared.Moved.{Moved}
-use Rattle.call.specs.declared.Stepped.{Stepped}
 
 -- what a call makes, by what is gathered
 abbrev pub call_in : ℕ → Tracker → List ℤ → Gathered → Sample → Moved
@@ -25,10 +22,13 @@ pub record Ready (t : Tracker) (stored : List ℤ) : Type 0 where
   pub long : length stored ≡ 2048
   pub small : (j : ℕ) → j < t.n → nat_abs (get_or stored j (pos 0)) ≤ 2048
 
--- what one call hands back: `done` says whether the tracker is to be stored, and `at` where the block is, past the end for nowhere
-pub record Steps (mode : ℕ) (t : Tracker) (shifts : List ℤ) (room : ℕ) (g : Gathered) (s : Sample) (r : Stepped) (last : List ℤ) : Type 0 where
-  pub answer : meaning r.answer ≡ answer_in mode t shifts room g s
-  pub tracker : choose r.done r.next t ≡ afterwards (answer_in mode t shifts room g s) t (call_in mode t shifts g s).tracker
+-- an answer with what an accepted call makes
+abbrev pub giving : {B : Type 0} → Outcome Unit → B → Outcome B
+giving (refused k) made = refused k
+giving (accepted tt) made = accepted made
+
+-- what one call hands back, and the shifts at exit. A block of an accepted call has room.
+pub record Steps (mode : ℕ) (t : Tracker) (shifts : List ℤ) (room : ℕ) (g : Gathered) (s : Sample) (r : Result Moved Refusal) (last : List ℤ) : Type 0 where
+  pub answer : meaning r ≡ giving (answer_in mode t shifts room g s) (call_in mode t shifts g s)
   pub stored : last ≡ afterwards (answer_in mode t shifts room g s) shifts (stored_of t shifts)
-  pub blocks : (bs : List Block) → length bs ≡ room
-      → set bs r.at r.block ≡ afterwards (answer_in mode t shifts room g s) bs (pushed_onto t bs (call_in mode t shifts g s))
+  pub has_room : (m : Moved) → r ≡ Ok m → t.blocks < room

@@ -1,18 +1,12 @@
--- The best candidate as the code holds it, in the words of crate trellis.
+-- The best candidate within a pass as the code holds it, in the words of crate trellis.
 use Rattle.std.specs.Prelude.{ℕ, ◌<◌, Bool, Float}
-use Rattle.std.proofs.Math.Option.{Option, none, some}
+use Rattle.std.proofs.Math.Option.{Option, some}
 use Rattle.trellis.specs.Search.{Candidate, trace_word}
-use Rattle.candidates.specs.declared.Best.{Best}
-use Rattle.candidates.specs.declared.Best.TheVariants.{Nothing, Word}
+use Rattle.traceback.specs.Best.{best_is}
 use Rattle.candidates.specs.declared.Held.{Held}
 use Rattle.candidates.specs.declared.Held.TheVariants.{Earlier, State}
 
--- the best candidate of the passes so far
-abbrev pub best_is : Best → Option (Candidate Float)
-best_is Nothing = none
-best_is (Word w g) = some (record { word = w; gain = g })
-
--- and within a pass, whose decisions d of n steps say what word a state stands for
+-- the best candidate within a pass, whose decisions d of n steps say what word a state stands for
 abbrev pub held_is : (ℕ → ℕ → Bool) → ℕ → Held → Option (Candidate Float)
 held_is d n (Earlier best) = best_is best
 held_is d n (State s g) = some (record { word = trace_word 16384 d n s; gain = g })

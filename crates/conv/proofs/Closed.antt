@@ -11,7 +11,6 @@ use native.Mathlib.Omega.{arith}
 use borrow.Author.Tests.{ltb-false}
 use lib.Dec.{ltb}
 use lib.Pow.{mod-mod-pow, mod-pow-add}
-use Rattle.util.specs.Some.{some_of}
 use Rattle.util.proofs.Some.{neither}
 use Rattle.frame.specs.Crc.{some_above_one}
 use Rattle.conv.specs.Encoder.{register, state, walk_register, made}
@@ -60,7 +59,6 @@ module _ (bits : ℕ → ℕ) (digits : (j : ℕ) → bits j < 2) where
 
 -- what the refusals leave: every byte is a bit, and so is what is read past the end
 pub bits_below : (bytes : List ℕ) → some_above_one bytes ≡ false → (j : ℕ) → bits_of bytes j < 2
-unfolding some_of
 bits_below [] e j = omega arith
 bits_below (b ∷ bs) e zero = omega (arith, ltb-false 1 b (neither (ltb 1 b) (some_above_one bs) e).0)
 bits_below (b ∷ bs) e (suc j) = bits_below bs (neither (ltb 1 b) (some_above_one bs) e).1 j

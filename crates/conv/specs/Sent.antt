@@ -1,13 +1,11 @@
 -- Document 01, 'A header sent': the public entry with its refusals, and what it leaves in the lent list.
 use Rattle.std.specs.Prelude.{ℕ, not, ◌&&◌, List, [], ◌∷◌, eqb, length, get_or, replicate}
-use Rattle.util.specs.Refusal.{Cause, Outcome, refused, accepted, outcome, afterwards}
+use Rattle.util.specs.Refusal.{Cause, Outcome, outcome, afterwards}
 use Rattle.frame.specs.Format.{named, header_bits}
 use Rattle.frame.specs.Air.{placed}
 use Rattle.frame.specs.Crc.{some_above_one}
 use Rattle.conv.specs.Label.{label_of}
 use Rattle.conv.specs.Encoder.{walk_register, made}
-use Rattle.conv.specs.declared.Sent.{Sent}
-use Rattle.conv.specs.declared.Sent.TheVariants.{Done, Refused}
 
 -- the bits of a list of bytes, by their place
 abbrev pub bits_of : List ℕ → ℕ → ℕ
@@ -21,11 +19,6 @@ step_label bits n j = label_of (walk_register 16384 (made bits n 14) bits j)
 -- proofs/Slots.antt)
 unfoldable pub labels : ℕ → (ℕ → ℕ) → List ℕ
 labels n bits = placed n (step_label bits n) n (replicate n 0)
-
--- the answer's cases in document 01's words
-abbrev pub meaning : Sent → Outcome Unit
-meaning Done = accepted tt
-meaning (Refused k) = refused k
 
 -- bits or values not n long: 48, 64, 48 by kind
 abbrev pub causes : ℕ → ℕ → List ℕ → ℕ → List Cause

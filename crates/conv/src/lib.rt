@@ -7,7 +7,10 @@ ghost use Rattle.frame.specs.Format.{header_bits};
 ghost use Rattle.frame.specs.Crc.{some_above_one};
 ghost use Rattle.conv.specs.Label.{parity_of, label_of};
 ghost use Rattle.conv.specs.Encoder.{made};
-ghost use Rattle.conv.specs.Sent.{bits_of, labels, meaning, sent_answer, sent_values};
+ghost use Rattle.conv.specs.Sent.{bits_of, labels, sent_answer, sent_values};
+ghost use Rattle.util.specs.Refusal.{meaning};
+
+use util::refusal::Refusal;
 
 // The generators: the register's newest bit is the lowest.
 pub const GEN: [u32; 5] = [0o42101, 0o77127, 0o60225, 0o42073, 0o64667];
@@ -57,31 +60,22 @@ fn encode(kind: u8, bits: &[u8], values: &mut [u8])
     }
 }
 
-// Done, or the refusal's number.
-#[derive(Clone, Copy)]
-pub enum Sent {
-    Done,
-    Refused(u8),
-}
-
 // Public entry: the header's symbol values, slot by slot (document 01, 'A header sent').
-pub fn header_values(mode: u8, kind: u8, bits: &[u8], values: &mut [u8]) -> Sent
+pub fn header_values(mode: u8, kind: u8, bits: &[u8], values: &mut [u8]) -> Result<(), Refusal>
     ensures answer { meaning result ≡ sent_answer mode kind bits.now (length values.old) }
     ensures lent { values.new ≡ sent_values mode kind bits.now values.old }
 {
-    if !frame::is_named(mode, kind) {
-        return Sent::Refused(1);
-    }
+    frame::format::named(mode, kind)?;
     let n = frame::header_symbols(kind) as usize;
     if bits.len() != n {
-        return Sent::Refused(4);
+        return Err(Refusal::Length);
     }
     if values.len() != n {
-        return Sent::Refused(4);
+        return Err(Refusal::Length);
     }
     if frame::some_above_one(bits) {
-        return Sent::Refused(5);
+        return Err(Refusal::NotBits);
     }
     encode(kind, bits, values);
-    Sent::Done
+    Ok(())
 }

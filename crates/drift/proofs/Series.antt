@@ -17,6 +17,7 @@ use lib.IntN.{ℤ, pos, nat_abs}
 use lib.Ieee.{Float, neg, lt}
 use lib.ListN.{length, get_or, set, length-set}
 use lib.Seq.{get_or-set_same, get_or-set_other}
+use Rattle.std.specs.Prelude.{None, Some}
 use Rattle.ieee.specs.Whole.{plus_zero}
 use Rattle.ieee.specs.Within.{Within}
 use Rattle.util.specs.Choose.{choose}
@@ -182,7 +183,7 @@ module _ (mode : ℕ) (known : mode ≤ 1) (u : Burst) (left : u.tracker.n < 204
     follows d w = shift-held mode t.shift d (t.n + 1) kp.shift w (omega (arith, left))
 
     -- within a block
-    goes : waiting mode t.n + 1 < L → Made (record { tracker = followed t num den t.drift t.blocks; pushed = false; block = nowhere })
+    goes : waiting mode t.n + 1 < L → Made (record { tracker = followed t num den t.drift t.blocks; pushed = None })
     goes h =
         let e = going (eqb mode 0) t.n late h in (
           record {
@@ -207,7 +208,7 @@ module _ (mode : ℕ) (known : mode ≤ 1) (u : Burst) (left : u.tracker.n < 204
       none_left = subst⁻¹ (λ (w : ℕ). Sums w plus_zero plus_zero) e.none sums_none
 
       -- a block ends with nothing heard
-      empty : Made (record { tracker = followed t plus_zero plus_zero t.drift t.blocks; pushed = false; block = nowhere })
+      empty : Made (record { tracker = followed t plus_zero plus_zero t.drift t.blocks; pushed = None })
       empty = (
         record {
           long = long-stored;
@@ -267,7 +268,7 @@ module _ (mode : ℕ) (known : mode ≤ 1) (u : Burst) (left : u.tracker.n < 204
           ((and-eq-true_iff (leb (before (place2_at bs') i) (place2_at bs' i)) _).0 (every-at (good_at bs') (t.blocks + 1) i h (good' p))).1
 
       pushes : lt plus_zero den ≡ true
-          → Made (record { tracker = followed t plus_zero plus_zero (fitted_of mode t bs b) (t.blocks + 1); pushed = true; block = b })
+          → Made (record { tracker = followed t plus_zero plus_zero (fitted_of mode t bs b) (t.blocks + 1); pushed = Some b })
       pushes p =
           let fitted =
           fit-within mode (t.blocks + 1) (place2_at bs') (timing_at bs') (omega (arith, few)) (λ i h. leb-true _ _ (ranged p i h).0)

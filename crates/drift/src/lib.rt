@@ -3,12 +3,30 @@
 #![tactic(auto)]
 
 ghost use Rattle.std.specs.Prelude.{◌≡◌};
-ghost use Rattle.tracker.specs.Rule.{meaning, track_answer};
+ghost use Rattle.util.specs.Refusal.{meaning};
+ghost use Rattle.tracker.specs.Rule.{track_answer};
 ghost use Rattle.drift.specs.Entry.{tracker_after, shifts_after, blocks_after};
+ghost use Rattle.drift.specs.Inside.{Called};
 
-use blocks::Block;
-use call::Stepped;
-use tracker::{Sample, Tracked, Tracker};
+use blocks::{Block, Blocks};
+use call::Moved;
+use tracker::{Sample, Tracker};
+use util::refusal::Refusal;
+
+// Inside: one call by value over blocks, wherever they come from. Of what is lent only the shifts are stored.
+pub fn call_over<B: Blocks>(
+    mode: u8,
+    t: Tracker,
+    shifts: &mut [i32],
+    blocks: &B,
+    s: Sample,
+) -> Result<Moved, Refusal>
+    ensures { Called mode t shifts.old (B.listed blocks.now) s result shifts.new }
+{
+    let room = blocks.count();
+    let g = blocks::gather(blocks, tracker::readable(mode, t, room));
+    call::step(mode, t, shifts, &g, room, s)
+}
 
 // Public entry: one symbol of a burst (document 01, 'Drift'). The shifts are 2,048, the blocks 64.
 pub fn track_timing(
@@ -17,18 +35,16 @@ pub fn track_timing(
     shifts: &mut [i32],
     blocks: &mut [Block],
     sample: Sample,
-) -> Tracked
+) -> Result<(), Refusal>
     ensures { (meaning result ≡ track_answer mode tracker.old shifts.old blocks.old sample)
         × (tracker.new ≡ tracker_after mode tracker.old shifts.old blocks.old sample)
         × (shifts.new ≡ shifts_after mode tracker.old shifts.old blocks.old sample)
         × (blocks.new ≡ blocks_after mode tracker.old shifts.old blocks.old sample) }
 {
-    let k = tracker::readable(mode, *tracker, blocks.len());
-    let g = blocks::gather(blocks, k);
-    let did = call::step(mode, *tracker, shifts, g, blocks.len(), sample);
-    blocks::put_if(blocks, did.at, did.block);
-    if did.done {
-        *tracker = did.next;
+    let made = call_over(mode, *tracker, shifts, &&*blocks, sample)?;
+    if let Some(block) = made.pushed {
+        blocks[tracker.blocks] = block;
     }
-    did.answer
+    *tracker = made.tracker;
+    Ok(())
 }

@@ -37,7 +37,7 @@ ones-label j h =
     ap₂ (λ (p b : ℕ). label_of (register p b)) (ones-state j (omega arith)) (get_or-replicate 48 j 1 0 (omega arith)) ∙ register-labels.6
 
 pub ones-sent : (mode : ℕ) → mode < 2 → (values : List ℕ) → length values ≡ 48 → sent_values mode 0 (replicate 48 1) values ≡ replicate 48 10
-unfolding named some_of
+unfolding named
 ones-sent mode m values e =
     simp (e, le-leb mode 1 (omega arith))
     (sym (labels-only 48 (bits_of ones) (replicate 48 10) refl
@@ -53,7 +53,7 @@ last-labels = (labels_at 48 (bits_of last) 0 (omega arith) ∙ register-labels.2
 
 pub last-sent : (mode : ℕ) → mode < 2 → (values : List ℕ) → length values ≡ 48
     → (get_or (sent_values mode 0 (replicate 47 0 ++ 1 ∷ []) values) 0 0 ≡ 26) × (get_or (sent_values mode 0 (replicate 47 0 ++ 1 ∷ []) values) 17 0 ≡ 31)
-unfolding named some_of
+unfolding named
 last-sent mode m values e =
     let known = le-leb mode 1 (omega arith) in
     (simp (e, known) last-labels.0, simp (e, known) last-labels.1)

@@ -2,6 +2,9 @@
 // of document 01's edge list are stated in specs/Stars.antt and proved in proofs/Stars.antt.
 #![tactic(auto)]
 
+use say::Tally;
+use std::io::Stdout;
+
 // The first outputs from two seeds, as published with SplitMix64.
 const FROM_1234567: [u64; 5] = [
     6457827717110365317,
@@ -17,60 +20,46 @@ const FROM_0: [u64; 3] = [
     487617019471545679,
 ];
 
+// What SplitMix64's state grows by.
+const STEP: u64 = 0x9E37_79B9_7F4A_7C15;
+
 // One line: the output from a state, and whether it is the published one.
-fn compare(state: u64, published: u64) -> bool {
+fn compare(to: Stdout, state: u64, published: u64) -> bool {
     let out = util::mix64(state);
-    say::text(b"  ");
-    say::number(out);
     if out == published {
-        say::text(b" as published\n");
-        return true;
+        say::line(to, format_args!("  {out} as published"));
+    } else {
+        say::line(to, format_args!("  {out} DIFFERS from {published}"));
     }
-    say::text(b" DIFFERS from ");
-    say::number(published);
-    say::text(b"\n");
-    false
+    out == published
 }
 
-fn head(seed: u64) {
-    say::text(b"SplitMix64 from seed ");
-    say::number(seed);
-    say::text(b"\n");
-}
-
-// How many of the outputs from a seed agree. SplitMix64's state grows by its constant.
-fn agreeing(seed: u64, published: &[u64]) -> u64 {
+// How many of the outputs from a seed agree.
+fn series(to: Stdout, seed: u64, published: &[u64]) {
+    say::line(to, format_args!("SplitMix64 from seed {seed}"));
     let mut state = seed;
-    let mut same: u64 = 0;
-    for i in 0..published.len() {
-        if compare(state, published[i]) {
-            same = std::num::wrapping_add_u64(same, 1);
+    let mut same = 0;
+    for output in published {
+        if compare(to, state, *output) {
+            same += 1;
         }
-        state = std::num::wrapping_add_u64(state, 0x9E37_79B9_7F4A_7C15);
+        state = state.wrapping_add(STEP);
     }
-    same
-}
-
-fn series(seed: u64, published: &[u64]) {
-    head(seed);
-    say::tally(agreeing(seed, published), published.len());
+    let all = published.len();
+    say::line(to, Tally { same, all });
 }
 
 // The symbols of a burst of so many bits.
-fn symbols(bits: u32) {
-    say::number(bits as u64);
-    say::text(b" bits: ");
-    say::number(interleave::symbols_of(bits));
-    say::text(b" symbols\n");
+fn symbols(to: Stdout, bits: u32) {
+    let symbols = interleave::symbols_of(bits);
+    say::line(to, format_args!("{bits} bits: {symbols} symbols"));
 }
 
-fn main() {
-    let from_1234567 = FROM_1234567;
-    let from_0 = FROM_0;
-    series(1234567, &from_1234567);
-    series(0, &from_0);
-    symbols(1);
-    symbols(5);
-    symbols(6);
-    symbols(10240);
+fn main(rt: HostRuntime) {
+    let to = rt.stdout();
+    series(to, 1234567, &FROM_1234567);
+    series(to, 0, &FROM_0);
+    for bits in [1, 5, 6, 10240] {
+        symbols(to, bits);
+    }
 }

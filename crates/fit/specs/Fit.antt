@@ -5,14 +5,12 @@ use Rattle.std.specs.Float.Ieee.{add, neg, le}
 use Rattle.ieee.specs.Whole.{plus_zero, run}
 use Rattle.ieee.specs.Within.{larger, clamp}
 use Rattle.util.specs.Choose.{choose}
-use Rattle.util.specs.Refusal.{Cause, Outcome, refused, accepted, outcome}
+use Rattle.util.specs.Refusal.{Cause, Outcome, outcome}
 use Rattle.frame.specs.Format.{format_of}
 use Rattle.util.specs.Every.{every}
 use Rattle.blocks.specs.Doubles.{◌⊕◌, ◌⊖◌, ◌⊗◌, ◌⊘◌, as_f64, fraction}
 use Rattle.blocks.specs.Blocks.{half, place2_at, timing_at, good_at}
 use Rattle.blocks.specs.declared.Block.{Block}
-use Rattle.fit.specs.declared.Fit.{Fit}
-use Rattle.fit.specs.declared.Fit.TheVariants.{Drift, Refused}
 
 -- ---- the fit of n blocks with places x and timings y
 
@@ -73,11 +71,6 @@ fit_blocks symbol n bs = fit_of symbol n (λ i. half (place2_at bs i)) (timing_a
 -- at most 64 blocks, all in range, none falling
 abbrev pub good_blocks : ℕ → List Block → Bool
 good_blocks n bs = leb n 64 && every n (good_at bs)
-
--- the answer's cases in document 01's words
-abbrev pub meaning : Fit → Outcome Float
-meaning (Drift d) = accepted d
-meaning (Refused k) = refused k
 
 -- `good` says whether the blocks are
 abbrev pub fit_causes : ℕ → Bool → List Cause

@@ -2,33 +2,28 @@
 // The blocks that it reads are crate `blocks`. Definitions in specs/.
 #![tactic(auto)]
 
-ghost use Rattle.std.specs.Prelude.{◌≡◌, ◌≤◌, ◌<◌, get_or, leb, ◌&&◌};
-ghost use Rattle.std.specs.Float.{nan};
+ghost use Rattle.std.specs.Prelude.{◌≡◌, ◌≤◌, ◌<◌, leb, ◌&&◌, length};
+ghost use Rattle.std.specs.Fn.{FnReturnsAt};
 ghost use Rattle.ieee.specs.Within.{larger, clamp};
-ghost use Rattle.fit.specs.Fit.{sum_of, products_of, squares_of, shrunk_slope, fit_about, fit_of, fit_causes, fit_answer};
-ghost use Rattle.fit.specs.Fit as TheFit;
+ghost use Rattle.blocks.specs.Inside.{places_in, timings_in};
+ghost use Rattle.fit.specs.Fit.{shrunk_slope, fit_about, fit_of, fit_causes, fit_answer};
 ghost use Rattle.fit.specs.Lists.{fit_over};
-ghost use Rattle.fit.specs.Inside.{fitted_in};
-ghost use Rattle.util.specs.Refusal.{outcome};
+ghost use Rattle.fit.specs.Inside.{SumOver, fitted_in};
+ghost use Rattle.util.specs.Refusal.{meaning, outcome};
 ghost use Rattle.frame.specs.Format.{format_of};
 
-use blocks::{Block, Gathered};
+use blocks::{Block, Blocks, Fields, Gathered, Point};
+use frame::format::Mode;
+use util::refusal::Refusal;
 
-// The drift, or the refusal's number.
-#[derive(Clone, Copy)]
-pub enum Fit {
-    Drift(f64),
-    Refused(u8),
-}
-
-// Inside: the larger of two.
+// Inside: the larger of two. std's `max` would take the other one of a NaN, and either of two zeros.
 pub fn larger(x: f64, y: f64) -> f64
     ensures { result ≡ larger x y }
 {
     if x < y { y } else { x }
 }
 
-// Inside: a value held between two ends.
+// Inside: a value held between two ends. std's `clamp` would ask that the ends are in order.
 pub fn clamp(low: f64, high: f64, x: f64) -> f64
     ensures { result ≡ clamp low high x }
 {
@@ -38,41 +33,12 @@ pub fn clamp(low: f64, high: f64, x: f64) -> f64
     if high < x { high } else { x }
 }
 
-// The sum of the first n, left to right from 0.0.
-fn total(x: &[f64; 64], n: usize) -> f64
-    requires { n ≤ 64 }
-    ensures { result ≡ sum_of (λ i. get_or x.now i nan) n }
+// The sum of a term over points, left to right from 0.0.
+fn total<F: Fn(&Point) -> f64>(points: &[Point], term: F) -> f64
+    requires { F.IsAlwaysCallable term }
+    ensures { SumOver (FnReturnsAt F.Fn term) points.now result }
 {
-    let mut acc = 0.0;
-    for i in 0..n {
-        acc = acc + x[i];
-    }
-    acc
-}
-
-// The sum of products about two means.
-fn products(n: usize, x: &[f64; 64], a: f64, y: &[f64; 64], b: f64) -> f64
-    requires { n ≤ 64 }
-    ensures { result ≡ products_of n (λ i. get_or x.now i nan) a (λ i. get_or y.now i nan) b }
-{
-    let mut acc = 0.0;
-    for i in 0..n {
-        acc = acc + (x[i] - a) * (y[i] - b);
-    }
-    acc
-}
-
-// The squares that a line of slope s leaves.
-fn squares(n: usize, x: &[f64; 64], a: f64, y: &[f64; 64], b: f64, s: f64) -> f64
-    requires { n ≤ 64 }
-    ensures { result ≡ squares_of n (λ i. get_or x.now i nan) a (λ i. get_or y.now i nan) b s }
-{
-    let mut acc = 0.0;
-    for i in 0..n {
-        let left = y[i] - b - s * (x[i] - a);
-        acc = acc + left * left;
-    }
-    acc
+    points.iter().fold(0.0, |acc, p| acc + term(p))
 }
 
 // The slope, shrunk by the prior and by its uncertainty, and held.
@@ -90,28 +56,35 @@ fn shrunk_slope(symbol: u32, n: usize, sxx: f64, s: f64, left: f64) -> f64
 }
 
 // The fit about two means.
-fn fit_about(symbol: u32, n: usize, x: &[f64; 64], xm: f64, y: &[f64; 64], ym: f64) -> f64
-    requires { n ≤ 64 }
-    ensures { result ≡ fit_about symbol n (λ i. get_or x.now i nan) xm (λ i. get_or y.now i nan) ym }
+fn fit_about(symbol: u32, points: &[Point], xm: f64, ym: f64) -> f64
+    requires { length points.now ≤ 64 }
+    ensures { result ≡ fit_about symbol (length points.now) (places_in points.now) xm (timings_in points.now) ym }
 {
-    let sxx = products(n, x, xm, x, xm);
+    let sxx = total(points, |p| (p.place - xm) * (p.place - xm));
     if sxx <= 0.0 {
         return 0.0;
     }
-    let s = products(n, x, xm, y, ym) / sxx;
-    shrunk_slope(symbol, n, sxx, s, squares(n, x, xm, y, ym, s))
+    let s = total(points, |p| (p.place - xm) * (p.timing - ym)) / sxx;
+    let squares = total(points, |p| {
+        let left = p.timing - ym - s * (p.place - xm);
+        left * left
+    });
+    shrunk_slope(symbol, points.len(), sxx, s, squares)
 }
 
-// The fit of n blocks with places x and timings y.
-fn fit_lists(symbol: u32, n: usize, x: &[f64; 64], y: &[f64; 64]) -> f64
-    requires { n ≤ 64 }
-    ensures { result ≡ fit_of symbol n (λ i. get_or x.now i nan) (λ i. get_or y.now i nan) }
+// The fit of points.
+fn fit_points(symbol: u32, points: &[Point]) -> f64
+    requires { length points.now ≤ 64 }
+    ensures { result ≡ fit_of symbol (length points.now) (places_in points.now) (timings_in points.now) }
 {
+    let n = points.len();
     if n < 6 {
         return 0.0;
     }
     let count = n as f64;
-    fit_about(symbol, n, x, total(x, n) / count, y, total(y, n) / count)
+    let xm = total(points, |p| p.place) / count;
+    let ym = total(points, |p| p.timing) / count;
+    fit_about(symbol, points, xm, ym)
 }
 
 // How many of a list of blocks the fit reads.
@@ -122,44 +95,42 @@ fn counted(listed: usize) -> usize
 }
 
 // The entry by what is gathered of a list of n blocks.
-fn fit_gathered(mode: u8, n: usize, g: Gathered) -> Fit
-    ensures { TheFit.meaning result ≡ outcome (fit_causes mode (leb n 64 && g.good))
-        (fit_of (format_of mode).symbol n (λ i. get_or g.places i nan) (λ i. get_or g.timings i nan)) }
+fn fit_gathered(mode: u8, n: usize, g: &Gathered) -> Result<f64, Refusal>
+    requires { length g.now.points ≡ 64 }
+    ensures { meaning result ≡ outcome (fit_causes mode (leb n 64 && g.now.good))
+        (fit_of (format_of mode).symbol n (places_in g.now.points) (timings_in g.now.points)) }
 {
-    if mode > 1 {
-        return Fit::Refused(1);
+    let mode = Mode::try_from(mode)?;
+    if n > 64 || !g.good {
+        return Err(Refusal::Blocks);
     }
-    if n > 64 {
-        return Fit::Refused(10);
-    }
-    if !g.good {
-        return Fit::Refused(10);
-    }
-    let places = g.places;
-    let timings = g.timings;
-    Fit::Drift(fit_lists(frame::symbol(mode), n, &places, &timings))
+    Ok(fit_points(mode.symbol(), &g.points[..n]))
+}
+
+// The entry over blocks, wherever they come from.
+fn fit_listed<B: Blocks>(mode: u8, blocks: &B) -> Result<f64, Refusal>
+    ensures { meaning result ≡ fit_answer mode (B.listed blocks.now) }
+{
+    let n = blocks.count();
+    let g = blocks::gather(blocks, counted(n));
+    fit_gathered(mode, n, &g)
 }
 
 // Public entry: the drift of at most 64 blocks (document 01, 'Drift').
-pub fn fit_drift(mode: u8, blocks: &[Block]) -> Fit
-    ensures { TheFit.meaning result ≡ fit_answer mode blocks.now }
+pub fn fit_drift(mode: u8, blocks: &[Block]) -> Result<f64, Refusal>
+    ensures { meaning result ≡ fit_answer mode blocks.now }
 {
-    let k = counted(blocks.len());
-    let g = blocks::gather(blocks, k);
-    fit_gathered(mode, blocks.len(), g)
+    fit_listed(mode, &blocks)
 }
 
 // Inside: the entry over blocks whose fields lie in two lists.
-pub fn fit_over(mode: u8, places: &[u32], timings: &[f64]) -> Fit
-    ensures { TheFit.meaning result ≡ fit_over mode places.now timings.now }
+pub fn fit_over(mode: u8, places: &[u32], timings: &[f64]) -> Result<f64, Refusal>
+    ensures { meaning result ≡ fit_over mode places.now timings.now }
 {
-    let n = places.len();
-    if timings.len() != n {
-        return Fit::Refused(blocks::two_lengths(mode));
+    if timings.len() != places.len() {
+        return Err(blocks::two_lengths(mode));
     }
-    let k = counted(n);
-    let g = blocks::gather_lists(places, timings, k);
-    fit_gathered(mode, n, g)
+    fit_listed(mode, &Fields { places, timings })
 }
 
 // Inside: the drift of k gathered blocks and b.
@@ -167,9 +138,7 @@ pub fn fit_with(mode: u8, g: Gathered, k: usize, b: Block) -> f64
     requires { k < 64 }
     ensures { result ≡ fitted_in mode g k b }
 {
-    let mut places = g.places;
-    let mut timings = g.timings;
-    places[k] = blocks::half(b.place2);
-    timings[k] = b.timing;
-    fit_lists(frame::symbol(mode), k + 1, &places, &timings)
+    let mut points = g.points;
+    points[k] = b.point();
+    fit_points(frame::symbol(mode), &points[..k + 1])
 }

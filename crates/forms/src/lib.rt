@@ -8,67 +8,54 @@ ghost use Rattle.util.specs.Table.{tabled, rows};
 ghost use Rattle.ieee.specs.Whole.{plus_zero};
 ghost use Rattle.symbol.specs.Symbol.{soft_bit};
 ghost use Rattle.interleave.specs.Interleave.{symbols_of};
-ghost use Rattle.forms.specs.Burst.{received, value_of, metrics_out};
-ghost use Rattle.forms.specs.Inside.{Lent, Made};
+ghost use Rattle.forms.specs.Burst.{value_of, metrics_out};
+ghost use Rattle.forms.specs.Inside.{heard, Lent, Made};
+
+// What was received of a burst: its mode and kind by their numbers, its layout and window, its terms, and a count of blanked samples for
+// each data symbol.
+#[derive(Clone, Copy)]
+pub struct Burst<'a> {
+    pub mode: u8,
+    pub kind: u8,
+    pub layout: u8,
+    pub window: u32,
+    pub terms: &'a [f32],
+    pub blanked: &'a [u32],
+}
 
 // The 32 values of data symbol i.
-fn values(
-    mode: u8,
-    kind: u8,
-    layout: u8,
-    window: u32,
-    terms: &[f32],
-    blanked: &[u32],
-    i: usize,
-) -> [f32; 32]
-    requires { (i < length blanked.now) × (260 * i + 260 ≤ length terms.now) × (i < 2048) }
-    ensures { (length result ≡ 32)
-        × ((v : ℕ) → v < 32 → get_or result v nan ≡ value_of (received mode kind layout window terms.now blanked.now) i v) }
+fn values(burst: &Burst<'_>, i: usize) -> [f32; 32]
+    requires { (i < length burst.now.blanked.now) × (260 * i + 260 ≤ length burst.now.terms.now) × (i < 2048) }
+    ensures { (length result ≡ 32) × ((v : ℕ) → v < 32 → get_or result v nan ≡ value_of (heard burst.now) i v) }
 {
-    if symbol::erased(layout, window, blanked[i]) {
+    if symbol::erased(burst.layout, burst.window, burst.blanked[i]) {
         return [0.0f32; 32];
     }
-    let h = frame::hop(mode, frame::header_symbols(kind) + (i as u64));
-    model::metrics(frame::bins(mode), h, terms, i)
+    let h = frame::hop(burst.mode, frame::header_symbols(burst.kind) + (i as u64));
+    model::metrics(frame::bins(burst.mode), h, burst.terms, i)
 }
 
 // The metrics out of every symbol, in slot order.
-fn all_metrics(
-    mode: u8,
-    kind: u8,
-    layout: u8,
-    window: u32,
-    terms: &[f32],
-    blanked: &[u32],
-    out: &mut [f32],
-)
-    requires { (length blanked.now ≤ 2048) × (length terms.now ≡ 260 * length blanked.now) × (length out.old ≡ 32 * length blanked.now) }
-    ensures { out.new ≡ metrics_out false (length blanked.now)
-        (value_of (received mode kind layout window terms.now blanked.now)) }
+fn all_metrics(burst: &Burst<'_>, out: &mut [f32])
+    requires { (length burst.now.blanked.now ≤ 2048) × (length burst.now.terms.now ≡ 260 * length burst.now.blanked.now)
+        × (length out.old ≡ 32 * length burst.now.blanked.now) }
+    ensures { out.new ≡ metrics_out false (length burst.now.blanked.now) (value_of (heard burst.now)) }
 {
-    for i in 0..blanked.len() {
-        let own = values(mode, kind, layout, window, terms, blanked, i);
+    for i in 0..burst.blanked.len() {
+        let own = values(burst, i);
         symbol::put_metrics(&own, out, i);
     }
 }
 
 // The soft bits of every symbol's Gray bits, in slot order.
-fn all_bits(
-    mode: u8,
-    kind: u8,
-    layout: u8,
-    window: u32,
-    terms: &[f32],
-    blanked: &[u32],
-    slots: &mut [f32],
-)
-    requires { (length blanked.now ≤ 2048) × (length terms.now ≡ 260 * length blanked.now) × (5 * length blanked.now ≤ length slots.old) }
-    ensures { (length slots.new ≡ length slots.old)
-        × ((q : ℕ) → q < 5 * length blanked.now → get_or slots.new q nan
-        ≡ rows 5 (λ i k. soft_bit true k (value_of (received mode kind layout window terms.now blanked.now) i)) q) }
+fn all_bits(burst: &Burst<'_>, slots: &mut [f32])
+    requires { (length burst.now.blanked.now ≤ 2048) × (length burst.now.terms.now ≡ 260 * length burst.now.blanked.now)
+        × (5 * length burst.now.blanked.now ≤ length slots.old) }
+    ensures { (length slots.new ≡ length slots.old) × ((q : ℕ) → q < 5 * length burst.now.blanked.now → get_or slots.new q nan
+        ≡ rows 5 (λ i k. soft_bit true k (value_of (heard burst.now) i)) q) }
 {
-    for i in 0..blanked.len() {
-        let own = values(mode, kind, layout, window, terms, blanked, i);
+    for i in 0..burst.blanked.len() {
+        let own = values(burst, i);
         symbol::put_bits(&own, slots, i);
     }
 }
@@ -92,82 +79,48 @@ fn plain_bits(metrics: &[f32], soft: &mut [f32])
 fn clear(work: &mut [f32])
     ensures { work.new ≡ replicate (length work.old) plus_zero }
 {
-    for i in 0..work.len() {
-        work[i] = 0.0;
-    }
+    work.fill(0.0);
 }
 
 // Bit form: metrics in slot order, soft bits through `deinterleave`. The work area is cleared.
-fn bit_form(
-    mode: u8,
-    kind: u8,
-    layout: u8,
-    window: u32,
-    terms: &[f32],
-    blanked: &[u32],
-    work: &mut [f32],
-    metrics: &mut [f32],
-    soft: &mut [f32],
-)
-    requires { Lent (length terms.now) (length blanked.now) (length work.old) (length metrics.old) (length soft.old) }
+fn bit_form(burst: &Burst<'_>, work: &mut [f32], metrics: &mut [f32], soft: &mut [f32])
+    requires { Lent (length burst.now.terms.now) (length burst.now.blanked.now) (length work.old) (length metrics.old) (length soft.old) }
     ensures { (work.new ≡ replicate (length work.old) plus_zero)
-        × Made false (value_of (received mode kind layout window terms.now blanked.now))
-        (length blanked.now) (length soft.old) metrics.new soft.new }
+        × Made false (value_of (heard burst.now)) (length burst.now.blanked.now) (length soft.old) metrics.new soft.new }
 {
-    all_metrics(mode, kind, layout, window, terms, blanked, metrics);
-    all_bits(mode, kind, layout, window, terms, blanked, work);
-    interleave::deinterleave(5 * (blanked.len() as u64), work, soft);
+    all_metrics(burst, metrics);
+    all_bits(burst, work);
+    interleave::deinterleave(5 * (burst.blanked.len() as u64), work, soft);
     clear(work);
 }
 
 // Symbol form: metrics through `deinterleave_sym`, soft bits from these. The work area is cleared.
-fn symbol_form(
-    mode: u8,
-    kind: u8,
-    layout: u8,
-    window: u32,
-    terms: &[f32],
-    blanked: &[u32],
-    work: &mut [f32],
-    metrics: &mut [f32],
-    soft: &mut [f32],
-)
-    requires { Lent (length terms.now) (length blanked.now) (length work.old) (length metrics.old) (length soft.old) }
+fn symbol_form(burst: &Burst<'_>, work: &mut [f32], metrics: &mut [f32], soft: &mut [f32])
+    requires { Lent (length burst.now.terms.now) (length burst.now.blanked.now) (length work.old) (length metrics.old) (length soft.old) }
     ensures { (work.new ≡ replicate (length work.old) plus_zero)
-        × Made true (value_of (received mode kind layout window terms.now blanked.now))
-        (length blanked.now) (length soft.old) metrics.new soft.new }
+        × Made true (value_of (heard burst.now)) (length burst.now.blanked.now) (length soft.old) metrics.new soft.new }
 {
-    all_metrics(mode, kind, layout, window, terms, blanked, work);
-    interleave::deinterleave_sym(blanked.len() as u64, work, metrics);
+    all_metrics(burst, work);
+    interleave::deinterleave_sym(burst.blanked.len() as u64, work, metrics);
     plain_bits(metrics, soft);
     clear(work);
 }
 
 // Inside: either form.
 pub fn make(
-    mode: u8,
-    kind: u8,
-    layout: u8,
+    burst: &Burst<'_>,
     symbols: bool,
-    window: u32,
-    terms: &[f32],
-    blanked: &[u32],
     work: &mut [f32],
     metrics: &mut [f32],
     soft: &mut [f32],
 )
-    requires { Lent (length terms.now) (length blanked.now) (length work.old) (length metrics.old) (length soft.old) }
+    requires { Lent (length burst.now.terms.now) (length burst.now.blanked.now) (length work.old) (length metrics.old) (length soft.old) }
     ensures { (work.new ≡ replicate (length work.old) plus_zero)
-        × Made symbols (value_of (received mode kind layout window terms.now blanked.now))
-        (length blanked.now) (length soft.old) metrics.new soft.new }
+        × Made symbols (value_of (heard burst.now)) (length burst.now.blanked.now) (length soft.old) metrics.new soft.new }
 {
     if symbols {
-        symbol_form(
-            mode, kind, layout, window, terms, blanked, work, metrics, soft,
-        );
+        symbol_form(burst, work, metrics, soft);
     } else {
-        bit_form(
-            mode, kind, layout, window, terms, blanked, work, metrics, soft,
-        );
+        bit_form(burst, work, metrics, soft);
     }
 }

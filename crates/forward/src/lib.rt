@@ -8,6 +8,8 @@ ghost use Rattle.util.specs.Choose.{choose};
 ghost use Rattle.util.specs.Table.{Stored};
 ghost use Rattle.forward.specs.Follow.{Masks, Eight, Part, Followed, Starts};
 
+use std::array;
+
 // A mask for each of eight decisions.
 fn masks() -> [u16; 8]
     ensures { Masks result }
@@ -27,13 +29,7 @@ fn eight(from: &[u16], x: usize, masks: &[u16; 8], piece: u16) -> [u16; 8]
     requires { (length from.now ≡ 16384) × (x + 4 ≤ 8192) }
     ensures { Eight from.now x masks.now piece result }
 {
-    let mut r = [0u16; 8];
-    let mut k = 0usize;
-    while k < 8 {
-        r[k] = taken(piece, masks[k], from[x + k / 2], from[x + 8192 + k / 2]);
-        k += 1;
-    }
-    r
+    array::from_fn(|k| taken(piece, masks[k], from[x + k / 2], from[x + 8192 + k / 2]))
 }
 
 // Lays them from z on. All is read before this stores, so that both go in vector code.
@@ -41,11 +37,7 @@ fn lay(to: &mut [u16], z: usize, eight: &[u16; 8])
     requires { (length to.old ≡ 16384) × (z + 8 ≤ 16384) }
     ensures { Stored 0 8 z (λ k. get_or eight.now k 0) to.old to.new }
 {
-    let mut k = 0usize;
-    while k < 8 {
-        to[z + k] = eight[k];
-        k += 1;
-    }
+    to[z..z + 8].copy_from_slice(eight);
 }
 
 // The eight states of part i, by their eight decisions.
@@ -86,10 +78,8 @@ fn follow(decisions: &[u64], j: usize, from: &[u16], to: &mut [u16])
     ensures { Followed decisions.now j from.now to.new }
 {
     let masks = masks();
-    let mut w = 0usize;
-    while w < 256 {
+    for w in 0..256usize {
         word(from, to, &masks, decisions[j * 256 + w], w);
-        w += 1;
     }
 }
 
@@ -98,10 +88,8 @@ fn itself(starts: &mut [u16])
     requires { length starts.old ≡ 16384 }
     ensures { (length starts.new ≡ 16384) × ((s : ℕ) → s < 16384 → get_or starts.new s 0 ≡ s) }
 {
-    let mut s = 0usize;
-    while s < 16384 {
+    for s in 0..16384usize {
         starts[s] = s as u16;
-        s += 1;
     }
 }
 
@@ -112,10 +100,8 @@ pub fn trace_all(decisions: &[u64], steps: usize, starts: &mut [u16], other: &mu
     ensures { Starts decisions.now steps starts.new }
 {
     itself(starts);
-    let mut j = 0usize;
-    while j < steps {
+    for j in (0..steps).step_by(2) {
         follow(decisions, j, starts, other);
         follow(decisions, j + 1, other, starts);
-        j += 2;
     }
 }

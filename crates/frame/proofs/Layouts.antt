@@ -62,12 +62,12 @@ abbrev row : List ℕ
 row = tabled 48 nth
 
 all-distinct : distinct row ≡ true
-unfolding distinct some_of tabled start_of base_start mask_of first_output output next_state xor_shift
+unfolding distinct tabled start_of base_start mask_of first_output output next_state xor_shift
 all-distinct = refl
 
 -- each has 16 bits
 all_short : some_of (leb (2 ^ 16)) row ≡ false
-unfolding some_of tabled start_of base_start mask_of first_output output next_state xor_shift
+unfolding tabled start_of base_start mask_of first_output output next_state xor_shift
 all_short = refl
 
 -- mode, kind and layout are those of a start

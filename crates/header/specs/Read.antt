@@ -9,16 +9,10 @@ use Rattle.trellis.specs.Answer as Answer
 use Rattle.trellis.specs.Terms.{document_search}
 use Rattle.outcome.specs.Outcome.{outcome_is}
 use Rattle.header.specs.declared.HeaderAnswer.{HeaderAnswer}
-use Rattle.header.specs.declared.HeaderRead.{HeaderRead}
-use Rattle.header.specs.declared.HeaderRead.TheVariants.{Answer, Refused}
 
--- the answer's cases in the papers' words
+-- the answer in the papers' words
 abbrev pub answer_is : HeaderAnswer → Answer.Answer Float
 answer_is a = record { word = a.word; outcome = outcome_is a.outcome; ceiling = a.ceiling }
-
-abbrev pub meaning : HeaderRead → Refusal.Outcome (Answer.Answer Float)
-meaning (Answer a) = accepted (answer_is a)
-meaning (Refused k) = refused k
 
 -- work areas: three of 16,384 f32, one of 256 u64 a step
 pub record Areas : Type 0 where

@@ -4,29 +4,31 @@
 #![tactic(auto)]
 
 ghost use Rattle.std.specs.Prelude.{◌≡◌, length};
-ghost use Rattle.util.specs.Refusal.{number};
+ghost use Rattle.util.specs.Refusal.{number, meaning_by};
 ghost use Rattle.labels.specs.Labels.{fill_answer, table_after};
 ghost use Rattle.trellis.specs.Demand.{Claims};
-ghost use Rattle.header.specs.Read.{meaning, areas};
+ghost use Rattle.header.specs.Read.{answer_is, areas};
 ghost use Rattle.header_face.specs.Face.{lent, answer_at, Told, HeaderFace, HeaderFaceWith};
+
+use header::HeaderAnswer;
+use util::refusal::{self, Refusal};
 
 // A read's number, and its answer in five places.
 fn told(
-    read: header::HeaderRead,
+    read: Result<HeaderAnswer, Refusal>,
     word: &mut u64,
     outcome: &mut u8,
     pass: &mut u8,
     score: &mut f32,
     ceiling: &mut f32,
 ) -> u32
-    ensures { Told (meaning read)
+    ensures { Told (meaning_by answer_is read)
         (lent word.old outcome.old pass.old score.old ceiling.old)
         (lent word.new outcome.new pass.new score.new ceiling.new) result }
 {
     match read {
-        header::HeaderRead::Answer(a) => {
-            let o = a.outcome;
-            let numbers = outcome::in_numbers(o);
+        Ok(a) => {
+            let numbers = outcome::in_numbers(a.outcome);
             *word = a.word;
             *outcome = numbers.outcome;
             *pass = numbers.pass;
@@ -34,7 +36,7 @@ fn told(
             *ceiling = a.ceiling;
             0
         }
-        header::HeaderRead::Refused(k) => k as u32,
+        Err(refusal) => refusal.number() as u32,
     }
 }
 
@@ -100,8 +102,5 @@ pub fn fill(table: &mut [u16]) -> u32
     ensures answer { result ≡ number (fill_answer (length table.old)) }
     ensures lent { table.new ≡ table_after table.old }
 {
-    match labels::fill_labels(table) {
-        labels::Filled::Done => 0,
-        labels::Filled::Refused(k) => k as u32,
-    }
+    refusal::number_told(labels::fill_labels(table))
 }

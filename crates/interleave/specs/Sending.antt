@@ -1,13 +1,10 @@
 -- Document 02, #101: the sending halves of both interleavers, each a public entry with its refusals.
-use Rattle.std.specs.Prelude.{ℕ, ◌+◌, ◌*◌, ◌%◌, Bool, not, List, [], ◌∷◌, eqb, ltb, length, get_or, replicate}
+use Rattle.std.specs.Prelude.{ℕ, ◌+◌, ◌*◌, ◌%◌, not, List, [], ◌∷◌, eqb, ltb, length, get_or, replicate}
 use Rattle.std.specs.Int.Bits.{bit_xor}
-use Rattle.util.specs.Choose.{choose}
-use Rattle.util.specs.Refusal.{Cause, Outcome, refused, accepted, outcome, afterwards}
+use Rattle.util.specs.Refusal.{Cause, Outcome, outcome, afterwards}
 use Rattle.frame.specs.Air.{placed}
 use Rattle.frame.specs.Crc.{some_above}
 use Rattle.interleave.specs.Interleave.{symbols_of, scramble_of, sym_scramble_of}
-use Rattle.interleave.specs.declared.Interleaved.{Interleaved}
-use Rattle.interleave.specs.declared.Interleaved.TheVariants.{Done, Refused}
 
 -- n, the slots of so many bits: five times the symbols
 abbrev pub slots_for : ℕ → ℕ
@@ -20,10 +17,6 @@ scrambled_bit bits p = (get_or bits p 0 + scramble_of p) % 2
 abbrev pub scrambled_symbol : List ℕ → ℕ → ℕ
 scrambled_symbol symbols p = bit_xor (get_or symbols p 0) (sym_scramble_of p)
 
--- the one or the other
-abbrev pub scrambled_of : Bool → List ℕ → ℕ → ℕ
-scrambled_of symbols message p = choose symbols (scrambled_symbol message p) (scrambled_bit message p)
-
 -- each bit goes to slot (a·p) mod n; slots that no bit reaches carry 0
 unfoldable pub sent_bits : List ℕ → List ℕ
 sent_bits bits = placed (slots_for (length bits)) (scrambled_bit bits) (length bits) (replicate (slots_for (length bits)) 0)
@@ -33,10 +26,6 @@ unfoldable pub sent_symbols : List ℕ → List ℕ
 sent_symbols symbols = placed (length symbols) (scrambled_symbol symbols) (length symbols) (replicate (length symbols) 0)
 
 -- the answer's cases in the papers' words
-abbrev pub meaning : Interleaved → Outcome Unit
-meaning Done = accepted tt
-meaning (Refused k) = refused k
-
 -- more than 10,240 bits; slots not n long; a byte above 1
 abbrev pub bit_causes : List ℕ → ℕ → List Cause
 bit_causes bits room =

@@ -3,15 +3,18 @@
 // specs/.
 #![tactic(auto)]
 
-ghost use Rattle.std.specs.Prelude.{◌≡◌, ◌+◌, ◌*◌, ◌%◌, ◌≤◌, ◌<◌, eqb, length, get_or, replicate};
+ghost use Rattle.std.specs.Prelude.{ℕ, ◌≡◌, ◌+◌, ◌*◌, ◌%◌, ◌≤◌, ◌<◌, eqb, length, get_or, replicate};
 ghost use Rattle.std.specs.Float.{nan};
 ghost use Rattle.std.specs.Float.Ieee.{neg};
 ghost use Rattle.std.specs.Int.Bits.{bit_xor};
 ghost use Rattle.util.specs.Choose.{choose};
 ghost use Rattle.util.specs.Table.{tabled, rows, Stored};
+ghost use Rattle.util.specs.Refusal.{meaning};
 ghost use Rattle.frame.specs.Air.{placed};
 ghost use Rattle.interleave.specs.Interleave.{symbols_of, scramble_of, sym_scramble_of, bit_back, sym_back};
-ghost use Rattle.interleave.specs.Sending.{scrambled_of, meaning, bits_answer, slots_after, symbols_answer, values_after};
+ghost use Rattle.interleave.specs.Sending.{bits_answer, slots_after, symbols_answer, values_after};
+
+use util::refusal::Refusal;
 
 // Inside: how many symbols a burst has: five bits to each, the last one perhaps with fewer.
 pub fn symbols_of(bits: u32) -> u64
@@ -81,23 +84,18 @@ pub fn deinterleave_sym(n: u64, slots: &[f32], out: &mut [f32])
     }
 }
 
-// Every slot 0, so that one that no bit reaches carries it.
-fn clear(slots: &mut [u8])
-    ensures { slots.new ≡ replicate (length slots.old) 0 }
+// Data bit p as it is sent.
+fn scrambled_bit(x: u8, p: u64) -> u8
+    ensures { result ≡ (x + scramble_of p) % 2 }
 {
-    for s in 0..slots.len() {
-        slots[s] = 0;
-    }
+    (((x as u64) + scramble(p)) % 2) as u8
 }
 
-// Data bit p, or code symbol p, as it is sent.
-fn scrambled(symbols: bool, x: u8, p: u64) -> u8
-    ensures { result ≡ choose symbols (bit_xor x (sym_scramble_of p)) ((x + scramble_of p) % 2) }
+// Code symbol p as it is sent.
+fn scrambled_symbol(x: u8, p: u64) -> u8
+    ensures { result ≡ bit_xor x (sym_scramble_of p) }
 {
-    if symbols {
-        return ((x as u64) ^ sym_scramble(p)) as u8;
-    }
-    (((x as u64) + scramble(p)) % 2) as u8
+    ((x as u64) ^ sym_scramble(p)) as u8
 }
 
 // The slot after slot s: (s + a) mod n, without a division.
@@ -109,60 +107,56 @@ fn next_slot(n: u64, a: u64, s: u64) -> u64
     if next < n { next } else { next - n }
 }
 
-// Each bit, or each symbol, to its slot among n.
-fn place(n: u64, symbols: bool, message: &[u8], slots: &mut [u8])
-    requires { (n ≤ 10240) × (length message.now ≤ n) × (length slots.old ≡ n) }
-    ensures { slots.new ≡ placed n (scrambled_of symbols message.now) (length message.now) slots.old }
+// Each bit, or each symbol, as it is sent, to its slot among n.
+fn place<F: Fn(u8, u64) -> u8>(n: u64, message: &[u8], slots: &mut [u8], sent: F)
+    requires lengths { (n ≤ 10240) × (length message.now ≤ n) × (length slots.old ≡ n) }
+    requires callable { F.IsAlwaysCallable sent }
+    ensures { (value : ℕ → ℕ) → ((p r : ℕ) → F.post sent (get_or message.now p 0) p r → r ≡ value p)
+        → slots.new ≡ placed n value (length message.now) slots.old }
 {
     let a = util::mult(n);
     let mut s = 0u64;
     for p in 0..message.len() {
-        slots[s as usize] = scrambled(symbols, message[p], p as u64);
+        slots[s as usize] = sent(message[p], p as u64);
         s = next_slot(n, a, s);
     }
 }
 
-// Done, or the refusal's number.
-#[derive(Clone, Copy)]
-pub enum Interleaved {
-    Done,
-    Refused(u8),
-}
-
 // Public entry: data bits, slot by slot (document 02, #101). The lent slots are five for each symbol of the bits.
-pub fn interleave(bits: &[u8], slots: &mut [u8]) -> Interleaved
+pub fn interleave(bits: &[u8], slots: &mut [u8]) -> Result<(), Refusal>
     ensures answer { meaning result ≡ bits_answer bits.now (length slots.old) }
     ensures lent { slots.new ≡ slots_after bits.now slots.old }
 {
     if bits.len() > 10240 {
-        return Interleaved::Refused(2);
+        return Err(Refusal::TooMany);
     }
     let n = 5 * symbols_of(bits.len() as u32);
     if slots.len() != n as usize {
-        return Interleaved::Refused(4);
+        return Err(Refusal::Length);
     }
     if frame::some_above_one(bits) {
-        return Interleaved::Refused(5);
+        return Err(Refusal::NotBits);
     }
-    clear(slots);
-    place(n, false, bits, slots);
-    Interleaved::Done
+    // a slot that no bit reaches carries 0
+    slots.fill(0);
+    place(n, bits, slots, scrambled_bit);
+    Ok(())
 }
 
 // Public entry: code symbols, slot by slot (document 02, #101). As many values are lent as there are symbols.
-pub fn interleave_sym(symbols: &[u8], values: &mut [u8]) -> Interleaved
+pub fn interleave_sym(symbols: &[u8], values: &mut [u8]) -> Result<(), Refusal>
     ensures answer { meaning result ≡ symbols_answer symbols.now (length values.old) }
     ensures lent { values.new ≡ values_after symbols.now values.old }
 {
     if symbols.len() > 2048 {
-        return Interleaved::Refused(2);
+        return Err(Refusal::TooMany);
     }
     if values.len() != symbols.len() {
-        return Interleaved::Refused(4);
+        return Err(Refusal::Length);
     }
     if frame::some_above(31, symbols) {
-        return Interleaved::Refused(11);
+        return Err(Refusal::NotSymbols);
     }
-    place(symbols.len() as u64, true, symbols, values);
-    Interleaved::Done
+    place(symbols.len() as u64, symbols, values, scrambled_symbol);
+    Ok(())
 }

@@ -3,11 +3,9 @@
 use Rattle.std.specs.Prelude.{ℕ, ◌+◌, ◌*◌, ◌<◌, Bool, not, List, [], ◌∷◌, ◌≡◌, eqb, length, get_or}
 use Rattle.std.specs.Int.Bits.{bit_xor}
 use Rattle.util.specs.Every.{every}
-use Rattle.util.specs.Refusal.{Cause, Outcome, refused, accepted, outcome, afterwards}
+use Rattle.util.specs.Refusal.{Cause, Outcome, outcome, afterwards}
 use Rattle.util.specs.Table.{tabled}
 use Rattle.conv.specs.Label.{label_of}
-use Rattle.labels.specs.declared.Filled.{Filled}
-use Rattle.labels.specs.declared.Filled.TheVariants.{Done, Refused}
 
 -- entry r is the label of register r by the parity rule, for each of the 32,768 registers of 15 bits
 unfoldable pub all_labels : List ℕ
@@ -41,11 +39,6 @@ pub record Spaced (gap n : ℕ) (list : List ℕ) : Type 0 where
 -- n more makes a register's label another by `by`, for every register below n
 abbrev pub Adds : ℕ → ℕ → Type 0
 Adds n by = (r : ℕ) → r < n → label_of (n + r) ≡ bit_xor (label_of r) by
-
--- the answer's cases in the papers' words
-abbrev pub meaning : Filled → Outcome Unit
-meaning Done = accepted tt
-meaning (Refused k) = refused k
 
 -- refusal 4: room for another number of entries
 abbrev pub causes : ℕ → List Cause

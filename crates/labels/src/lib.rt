@@ -3,33 +3,21 @@
 // each power of two as it began. Definitions in specs/.
 #![tactic(auto)]
 
-ghost use Rattle.std.specs.Prelude.{◌≡◌, ◌+◌, ◌≤◌, ◌<◌, length};
+ghost use Rattle.std.specs.Prelude.{◌≡◌, ◌+◌, ◌*◌, ◌≤◌, ◌<◌, length};
 ghost use Rattle.util.specs.Every.{every};
+ghost use Rattle.util.specs.Refusal.{meaning};
 ghost use Rattle.conv.specs.Label.{label_of};
-ghost use Rattle.labels.specs.Labels.{keeps_at, labelled, Labels, Lawful, Row, Spaced, Adds, meaning, fill_answer, table_after};
+ghost use Rattle.labels.specs.Labels.{keeps_at, labelled, Labels, Lawful, Row, Spaced, Adds, fill_answer, table_after};
 
-// The 64 labels from register `first` on, from the table.
-fn read_out(table: &[u16], first: usize) -> [u16; 64]
-    requires { Lawful table.now × (first + 64 ≤ length table.now) × (first < 32768) }
-    ensures { Row first result }
-{
-    let mut row = [0u16; 64];
-    for k in 0..64 {
-        row[k] = table[first + k];
-    }
-    row
-}
+use std::array;
+use util::refusal::Refusal;
 
-// The same by parity.
-fn worked_out(first: usize) -> [u16; 64]
-    requires { first < 32768 }
-    ensures { Row first result }
+// The label of register r by parity.
+fn by_parity(r: usize) -> u16
+    requires { r < 32768 }
+    ensures { result ≡ label_of r }
 {
-    let mut row = [0u16; 64];
-    for k in 0..64 {
-        row[k] = conv::label((first + k) as u32) as u16;
-    }
-    row
+    conv::label(r as u32) as u16
 }
 
 // Inside: the 64 labels from register `first` on, from the table where one is lent, else by parity. Every label that the search uses
@@ -39,9 +27,9 @@ pub fn row(table: &[u16], first: usize) -> [u16; 64]
     ensures { Row first result }
 {
     if table.len() == 32768 {
-        return read_out(table, first);
+        return array::from_fn(|k| table[first + k]);
     }
-    worked_out(first)
+    array::from_fn(|k| by_parity(first + k))
 }
 
 // The label of register r: from the table where one is lent, else by parity. Of two such crate butterfly makes others, by exclusive or.
@@ -52,7 +40,15 @@ fn label(table: &[u16], r: usize) -> u16
     if r < table.len() {
         return table[r];
     }
-    conv::label(r as u32) as u16
+    by_parity(r)
+}
+
+// The labels of N registers from register 0 on, `gap` apart.
+fn spaced<const N: usize>(table: &[u16], gap: usize) -> [u16; N]
+    requires { Lawful table.now × (N * gap ≤ 32768) }
+    ensures { Spaced gap N result }
+{
+    array::from_fn(|k| label(table, k * gap))
 }
 
 // Inside: the labels of the even registers of a block of 32 from register 0.
@@ -60,11 +56,7 @@ pub fn evens(table: &[u16]) -> [u16; 16]
     requires { Lawful table.now }
     ensures { Spaced 2 16 result }
 {
-    let mut list = [0u16; 16];
-    for k in 0..16 {
-        list[k] = label(table, k * 2);
-    }
-    list
+    spaced(table, 2)
 }
 
 // Inside: the label of the first register of each block of 32, for all states.
@@ -72,11 +64,7 @@ pub fn firsts(table: &[u16]) -> [u16; 512]
     requires { Lawful table.now }
     ensures { Spaced 32 512 result }
 {
-    let mut list = [0u16; 512];
-    for h in 0..512 {
-        list[h] = label(table, h * 32);
-    }
-    list
+    spaced(table, 32)
 }
 
 // Whether the entries from `half` to twice that keep to the parity rule as well as those below, of which `below` says it: each is
@@ -86,10 +74,8 @@ fn upper_kept(table: &[u16], half: usize, by: u16, below: bool) -> bool
     ensures { result ≡ every (half + half) (keeps_at table.now) }
 {
     let mut kept = below;
-    let mut i = 0usize;
-    while i < half {
+    for i in 0..half {
         kept = util::both(kept, table[half + i] == table[i] ^ by);
-        i += 1;
     }
     kept
 }
@@ -102,7 +88,7 @@ pub fn all_kept(table: &[u16]) -> bool
     let mut kept = table[0] == 0;
     let mut half = 1usize;
     while half < 32768 {
-        kept = upper_kept(table, half, conv::label(half as u32) as u16, kept);
+        kept = upper_kept(table, half, by_parity(half), kept);
         half *= 2;
     }
     kept
@@ -113,10 +99,8 @@ fn fill_upper(table: &mut [u16], half: usize, by: u16)
     requires { (length table.old ≡ 32768) × (half ≤ 16384) × Adds half by × Labels half table.old }
     ensures { (length table.new ≡ 32768) × Labels (half + half) table.new }
 {
-    let mut r = 0usize;
-    while r < half {
+    for r in 0..half {
         table[half + r] = table[r] ^ by;
-        r += 1;
     }
 }
 
@@ -128,26 +112,19 @@ fn fill(table: &mut [u16])
     table[0] = 0;
     let mut half = 1usize;
     while half < 32768 {
-        fill_upper(table, half, conv::label(half as u32) as u16);
+        fill_upper(table, half, by_parity(half));
         half *= 2;
     }
 }
 
-// Done, or the refusal's number.
-#[derive(Clone, Copy)]
-pub enum Filled {
-    Done,
-    Refused(u8),
-}
-
 // Public entry: the table that `read_header_with` is lent (document 02, #111).
-pub fn fill_labels(table: &mut [u16]) -> Filled
+pub fn fill_labels(table: &mut [u16]) -> Result<(), Refusal>
     ensures answer { meaning result ≡ fill_answer (length table.old) }
     ensures lent { table.new ≡ table_after table.old }
 {
     if table.len() != 32768 {
-        return Filled::Refused(4);
+        return Err(Refusal::Length);
     }
     fill(table);
-    Filled::Done
+    Ok(())
 }

@@ -6,15 +6,15 @@ use mathlib.Core.List.{List}
 use mathlib.Core.Option.{Option}
 use mathlib.Core.Path.{◌≡◌, refl, sym, ap, subst, ◌∙◌}
 use native.Mathlib.Omega.{arith}
-use borrow.Author.Tests.{eqb-true, lt-leb, le-ltb}
+use borrow.Author.Tests.{lt-leb, le-ltb}
 use lib.Dec.{T, eqb, leb, ltb}
 use lib.ListN.{get_or}
 use lib.Ieee.{Float, nan, inf, fin, lt, le}
-use Rattle.util.specs.Choose.{choose}
-use Rattle.util.proofs.Choose.{by-case}
 use Rattle.ieee.proofs.Order.{le_trans, lt-le}
 use Rattle.level.specs.Rank.{passes, count_of, ranks}
 use Rattle.level.specs.Inside.{held_at, Fenced, Side}
+use Rattle.level.specs.declared.Lies.{Lies}
+use Rattle.level.specs.declared.Lies.TheVariants.{There, Low, High}
 use Rattle.level.proofs.Counting.{count-mono, ranks-holds}
 use Rattle.level.proofs.Turns.{held-is, held-not}
 
@@ -62,12 +62,12 @@ module _ (marks : List ℕ) (values : List Float) (base n k b : ℕ) where
 
   -- its mark is another, or it lies where no value has the rank
   pub fenced : (low high : Float) → Fenced held n k low high → (not (eqb (get_or marks (base + b) 0) 1) || (le x low || le high x)) ≡ true
-      → Side marks values base n k b 0
+      → Side marks values base n k b Lies.Fenced
   fenced low high f e = record {
-    here = λ z. absurd (omega arith);
+    here = λ z. cc;
     not-here = λ z. by (eqb (get_or marks (base + b) 0) 1) (le x low) (le high x) refl refl refl e;
-    low = λ z. absurd (omega arith);
-    high = λ z. absurd (omega arith);
+    low = λ z. cc;
+    high = λ z. cc;
   }
     where
       by : (m l h : Bool) → eqb (get_or marks (base + b) 0) 1 ≡ m → le x low ≡ l → le high x ≡ h → (not m || (l || h)) ≡ true
@@ -78,28 +78,28 @@ module _ (marks : List ℕ) (values : List Float) (base n k b : ℕ) where
       by true false false p q r t = absurd (true≢false (sym t))
 
   module _ (there : eqb (get_or marks (base + b) 0) 1 ≡ true) where
-    pub lies-high : k < count_of (λ y. lt y x) held n → Side marks values base n k b 3
+    pub lies-high : k < count_of (λ y. lt y x) held n → Side marks values base n k b High
     lies-high h = record {
-      here = λ z. absurd (omega arith);
+      here = λ z. cc;
       not-here = λ z. held-is (ranks held n k) marks values base b there ∙ too-high held n k x h;
-      low = λ z. absurd (omega arith);
+      low = λ z. cc;
       high = λ z y e. over held n k x y h e;
     }
 
-    pub lies-low : count_of (λ y. le y x) held n ≤ k → Side marks values base n k b 2
+    pub lies-low : count_of (λ y. le y x) held n ≤ k → Side marks values base n k b Low
     lies-low h = record {
-      here = λ z. absurd (omega arith);
+      here = λ z. cc;
       not-here = λ z. held-is (ranks held n k) marks values base b there ∙ too-low held n k x h;
       low = λ z y e. under held n k x y h e;
-      high = λ z. absurd (omega arith);
+      high = λ z. cc;
     }
 
-    pub lies-there : count_of (λ y. lt y x) held n ≤ k → k < count_of (λ y. le y x) held n → Side marks values base n k b 1
+    pub lies-there : count_of (λ y. lt y x) held n ≤ k → k < count_of (λ y. le y x) held n → Side marks values base n k b There
     lies-there h l = record {
       here = λ z. held-is (ranks held n k) marks values base b there ∙ ranks-holds held n k x h l;
       not-here = λ z. absurd (z refl);
-      low = λ z. absurd (omega arith);
-      high = λ z. absurd (omega arith);
+      low = λ z. cc;
+      high = λ z. cc;
     }
 
 -- where it is not fenced off it is there
@@ -111,16 +111,10 @@ unfenced marks at x low high = by (eqb (get_or marks at 0) 1)
     by false e = absurd (true≢false e)
 
 -- ---- the fences with what is told of one bin more
-pub fences-more : (marks : List ℕ) (values : List Float) (base n k b r : ℕ) (low high low' high' : Float) → Side marks values base n k b r
-    → Fenced (held_at marks values base) n k low high → low' ≡ choose (eqb r 2) (get_or values (base + b) nan) low
-    → high' ≡ choose (eqb r 3) (get_or values (base + b) nan) high → Fenced (held_at marks values base) n k low' high'
-fences-more marks values base n k b r low high low' high' side f e g =
-    let held = held_at marks values base in
-    record {
-      under = subst (λ (l : Float). (x : Float) → le x l ≡ true → ranks held n k x ≡ false) (sym e)
-          (by-case (λ (l : Float). (x : Float) → le x l ≡ true → ranks held n k x ≡ false) (eqb r 2) (get_or values (base + b) nan) low
-          (λ t. side.low (eqb-true r 2 t)) (λ t. f.under));
-      over = subst (λ (h : Float). (x : Float) → le h x ≡ true → ranks held n k x ≡ false) (sym g)
-          (by-case (λ (h : Float). (x : Float) → le h x ≡ true → ranks held n k x ≡ false) (eqb r 3) (get_or values (base + b) nan) high
-          (λ t. side.high (eqb-true r 3 t)) (λ t. f.over));
-    }
+module _ (marks : List ℕ) (values : List Float) (base n k b : ℕ) (r : Lies) (low high : Float) (side : Side marks values base n k b r)
+    (f : Fenced (held_at marks values base) n k low high) where
+  pub fence-low : r ≡ Low → Fenced (held_at marks values base) n k (get_or values (base + b) nan) high
+  fence-low e = record { under = side.low e; over = f.over }
+
+  pub fence-high : r ≡ High → Fenced (held_at marks values base) n k low (get_or values (base + b) nan)
+  fence-high e = record { under = f.under; over = side.high e }

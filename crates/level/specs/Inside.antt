@@ -7,6 +7,8 @@ use Rattle.std.specs.Float.Ieee.{le}
 use Rattle.util.specs.Choose.{choose}
 use Rattle.level.specs.Row.{is_around}
 use Rattle.level.specs.Rank.{passes, ranks}
+use Rattle.level.specs.declared.Lies.{Lies}
+use Rattle.level.specs.declared.Lies.TheVariants.{There, Low, High}
 
 -- the mark of bin b, the strongest tone being at place e
 abbrev pub mark_of : ℕ → ℕ → ℕ
@@ -26,10 +28,10 @@ pub record Fenced (held : ℕ → Option Float) (n k : ℕ) (low high : Float) :
   pub under : (x : Float) → le x low ≡ true → ranks held n k x ≡ false
   pub over : (x : Float) → le high x ≡ true → ranks held n k x ≡ false
 
--- what a number tells of bin b: 1 that it has rank k, any other that it has not; 2 that no value up to its own has, 3 that none
+-- what is told of bin b: `There` that it has rank k, any other that it has not; `Low` that no value up to its own has, `High` that none
 -- from its own on has
-pub record Side (marks : List ℕ) (values : List Float) (base n k b r : ℕ) : Type 0 where
-  pub here : r ≡ 1 → passes (ranks (held_at marks values base) n k) (held_at marks values base b) ≡ true
-  pub not-here : (r ≡ 1 → ⊥) → passes (ranks (held_at marks values base) n k) (held_at marks values base b) ≡ false
-  pub low : r ≡ 2 → (x : Float) → le x (get_or values (base + b) nan) ≡ true → ranks (held_at marks values base) n k x ≡ false
-  pub high : r ≡ 3 → (x : Float) → le (get_or values (base + b) nan) x ≡ true → ranks (held_at marks values base) n k x ≡ false
+pub record Side (marks : List ℕ) (values : List Float) (base n k b : ℕ) (r : Lies) : Type 0 where
+  pub here : r ≡ There → passes (ranks (held_at marks values base) n k) (held_at marks values base b) ≡ true
+  pub not-here : (r ≡ There → ⊥) → passes (ranks (held_at marks values base) n k) (held_at marks values base b) ≡ false
+  pub low : r ≡ Low → (x : Float) → le x (get_or values (base + b) nan) ≡ true → ranks (held_at marks values base) n k x ≡ false
+  pub high : r ≡ High → (x : Float) → le (get_or values (base + b) nan) x ≡ true → ranks (held_at marks values base) n k x ≡ false

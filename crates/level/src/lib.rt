@@ -2,23 +2,15 @@
 // around its strongest tone, and its level, by the median of the bins that are left. Definitions in specs/.
 #![tactic(auto)]
 
-ghost use Rattle.std.specs.Prelude.{◌≡◌, not, ◌&&◌, ◌||◌, ℕ, ◌+◌, ◌*◌, ◌≤◌, ◌<◌, eqb, length, get_or};
+ghost use Rattle.std.specs.Prelude.{Float, Bool, ◌≡◌, not, ◌&&◌, ◌||◌, ℕ, ◌+◌, ◌*◌, ◌≤◌, ◌<◌, eqb, length, get_or};
 ghost use Rattle.std.specs.Float.{nan};
 ghost use Rattle.std.specs.Float.Ieee.{lt, le};
 ghost use Rattle.util.specs.Choose.{choose};
 ghost use Rattle.frame.specs.Air.{bin_of, place_of};
-ghost use Rattle.ieee.specs.Within.{larger};
 ghost use Rattle.level.specs.Row.{ratio_of, strongest_of, is_around};
 ghost use Rattle.level.specs.Rank.{once, count_of, of_rank};
 ghost use Rattle.level.specs.Level.{level_from};
 ghost use Rattle.level.specs.Inside.{Row, mark_of, held_at, Fenced, Side};
-
-// Inside: the larger of two.
-pub fn larger(x: f32, y: f32) -> f32
-    ensures { result ≡ larger x y }
-{
-    if x < y { y } else { x }
-}
 
 // Inside: row i in units of each bin's noise.
 pub fn ratios(energies: &[f32], i: usize, noise: &[f32]) -> [f32; 52]
@@ -65,14 +57,12 @@ pub fn strongest(bins: u64, h: u64, row: &[f32]) -> u32
 }
 
 // Whether bin b is one of the five around place e.
+#[tactic(auto, unfolding(crate::specs::Row::is_around))]
 fn is_around(e: u32, b: u32) -> bool
     requires { (e ≤ 52) × (b ≤ 52) }
     ensures { result ≡ is_around e b }
 {
-    if b + 2 < e {
-        return false;
-    }
-    b <= e + 2
+    e <= b + 2 && b <= e + 2
 }
 
 // Inside: a row's marks: 0 for the five bins around place e, which are missing, 1 for the others.
@@ -97,26 +87,17 @@ fn counted(mark: u32, passes: bool) -> u32
     if mark == 1 { passes as u32 } else { 0 }
 }
 
-// How many of a row's bins are there and lie below x. (The row's bins stand in the two lists from `base` on.)
-fn below(marks: &[u32], row: &[f32], base: usize, read: usize, x: f32) -> u32
-    requires { Row marks.now row.now base read }
-    ensures { result ≡ count_of (λ y. lt y x) (held_at marks.now row.now base) read }
+// How many of a row's bins are there and pass a test. (The row's bins stand in the two lists from `base` on.)
+fn count<F: Fn(f32) -> bool>(marks: &[u32], row: &[f32], base: usize, read: usize, passes: F) -> u32
+    requires row { Row marks.now row.now base read }
+    requires callable { F.IsAlwaysCallable passes }
+    ensures few { result ≤ read }
+    ensures count { (test : Float → Bool) → ((y : Float) (b : Bool) → F.post passes y b → b ≡ test y)
+        → result ≡ count_of test (held_at marks.now row.now base) read }
 {
     let mut n = 0u32;
     for b in 0..read {
-        n += counted(marks[base + b], row[base + b] < x);
-    }
-    n
-}
-
-// How many are there and do not lie above x.
-fn not_above(marks: &[u32], row: &[f32], base: usize, read: usize, x: f32) -> u32
-    requires { Row marks.now row.now base read }
-    ensures { result ≡ count_of (λ y. le y x) (held_at marks.now row.now base) read }
-{
-    let mut n = 0u32;
-    for b in 0..read {
-        n += counted(marks[base + b], row[base + b] <= x);
+        n += counted(marks[base + b], passes(row[base + b]));
     }
     n
 }
@@ -126,17 +107,20 @@ fn not_above(marks: &[u32], row: &[f32], base: usize, read: usize, x: f32) -> u3
 fn is_fenced(mark: u32, low: f32, high: f32, x: f32) -> bool
     ensures { result ≡ (not (eqb mark 1) || (le x low || le high x)) }
 {
-    if mark != 1 {
-        return true;
-    }
-    if x <= low {
-        return true;
-    }
-    high <= x
+    mark != 1 || x <= low || high <= x
 }
 
-// Of bin b: 1 where it is there and has rank k, from 0, among those of the row that are there; 2 where it lies too low, 3 where it lies
-// too high; 0 where it is missing, or where the fences tell without counting that it has not.
+// What is told of a bin: that it is there and has rank k, from 0, among those of the row that are there; that it lies too low for that, or
+// too high; or that it is missing, or that the fences tell without counting that it has not.
+#[derive(Clone, Copy)]
+enum Lies {
+    There,
+    Low,
+    High,
+    Fenced,
+}
+
+// What is told of bin b.
 fn side_of(
     marks: &[u32],
     row: &[f32],
@@ -146,28 +130,21 @@ fn side_of(
     low: f32,
     high: f32,
     b: usize,
-) -> u8
+) -> Lies
     requires { Row marks.now row.now base read × (b < read) × Fenced (held_at marks.now row.now base) read k low high }
     ensures { Side marks.now row.now base read k b result }
 {
     let x = row[base + b];
     if is_fenced(marks[base + b], low, high, x) {
-        return 0;
+        return Lies::Fenced;
     }
-    if below(marks, row, base, read, x) > k {
-        return 3;
+    if count(marks, row, base, read, |y| y < x) > k {
+        return Lies::High;
     }
-    if k < not_above(marks, row, base, read, x) {
-        return 1;
+    if k < count(marks, row, base, read, |y| y <= x) {
+        return Lies::There;
     }
-    2
-}
-
-// The first of two where a test holds, else the second.
-fn pick(test: bool, x: f32, y: f32) -> f32
-    ensures { result ≡ choose test x y }
-{
-    if test { x } else { y }
+    Lies::Low
 }
 
 // The value of rank k among a row's bins that are there: the first of them that has it. (One has: proofs/Found.antt.) A value that was
@@ -180,12 +157,12 @@ fn of_rank(marks: &[u32], row: &[f32], base: usize, read: usize, k: u32) -> f32
     let mut low = unknown;
     let mut high = unknown;
     for b in 0..read {
-        let side = side_of(marks, row, base, read, k, low, high, b);
-        if side == 1 {
-            return row[base + b];
+        match side_of(marks, row, base, read, k, low, high, b) {
+            Lies::There => return row[base + b],
+            Lies::Low => low = row[base + b],
+            Lies::High => high = row[base + b],
+            Lies::Fenced => {}
         }
-        low = pick(side == 2, row[base + b], low);
-        high = pick(side == 3, row[base + b], high);
     }
     0.0
 }
@@ -195,5 +172,5 @@ pub fn level(marks: &[u32], row: &[f32], base: usize, read: usize, k: u32, less:
     requires { Row marks.now row.now base read }
     ensures { result ≡ level_from (of_rank (held_at marks.now row.now base) read k) less }
 {
-    larger(of_rank(marks, row, base, read, k) / 0.6931472 - less, 1.0)
+    ieee::larger(of_rank(marks, row, base, read, k) / 0.6931472 - less, 1.0)
 }

@@ -37,20 +37,12 @@ pub fn metrics(bins: u64, h: u64, terms: &[f32], symbol: usize) -> [f32; 32]
 fn out_of_range(t: f32) -> bool
     ensures { result ≡ out_of_range t }
 {
-    if -1_000_000.0 <= t {
-        return !(t <= 1_000_000.0);
-    }
-    true
+    !(-1_000_000.0 <= t && t <= 1_000_000.0)
 }
 
 // Inside: whether some term is not finite or beyond ±1,000,000 (refusal 6).
 pub fn some_out(terms: &[f32]) -> bool
     ensures { result ≡ some_out terms.now }
 {
-    for i in 0..terms.len() {
-        if out_of_range(terms[i]) {
-            return true;
-        }
-    }
-    false
+    terms.iter().any(|t| out_of_range(*t))
 }

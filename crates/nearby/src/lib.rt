@@ -93,24 +93,12 @@ pub fn counts(marks: &[u32], first: usize) -> [u32; 52]
     out
 }
 
-// Inside: 52 values into a list, from base on.
-pub fn put_row(row: &[f32], list: &mut [f32], base: usize)
+// Inside: 52 values, or 52 marks, into a list, from base on.
+pub fn put_row<T: Copy>(row: &[T], list: &mut [T], base: usize)
     requires { (length row.now ≡ 52) × (base + 52 ≤ length list.old) }
-    ensures { Put nan 52 base (λ b. get_or row.now b nan) list.old list.new }
+    ensures { (d : T) → Put d 52 base (λ b. get_or row.now b d) list.old list.new }
 {
-    for b in 0..52usize {
-        list[base + b] = row[b];
-    }
-}
-
-// 52 marks into a list, from base on.
-fn put_marks(row: &[u32], list: &mut [u32], base: usize)
-    requires { (length row.now ≡ 52) × (base + 52 ≤ length list.old) }
-    ensures { Put 0 52 base (λ b. get_or row.now b 0) list.old list.new }
-{
-    for b in 0..52usize {
-        list[base + b] = row[b];
-    }
+    list[base..base + 52].copy_from_slice(row);
 }
 
 // Inside: row i heard, with hop h: into its place among the 25, that of the row 25 before it.
@@ -132,7 +120,7 @@ pub fn hear(
     let base = 52 * (i % 25);
     let row = level::ratios(energies, i, noise);
     let held = level::marks(level::strongest(bins, h, &row));
-    put_marks(&held, marks, base);
+    put_row(&held, marks, base);
     put_row(&row, values, base);
 }
 
@@ -142,5 +130,5 @@ pub fn pass_over(i: usize, marks: &mut [u32])
     ensures { (values : List Float) → Moved i (λ b. none) marks.old values marks.new values }
 {
     let missing = [0u32; 52];
-    put_marks(&missing, marks, 52 * (i % 25));
+    put_row(&missing, marks, 52 * (i % 25));
 }

@@ -4,13 +4,11 @@ use Rattle.std.specs.Float.{fin, nan}
 use Rattle.std.specs.Float.Ieee.{le}
 use Rattle.std.specs.Float.Ieee.Scale.{finite}
 use Rattle.util.specs.Some.{some_of}
-use Rattle.util.specs.Refusal.{Cause, Outcome, refused, accepted, outcome, afterwards}
+use Rattle.util.specs.Refusal.{Cause, Outcome, accepted, outcome, afterwards}
 use Rattle.frame.specs.Format.{named}
 use Rattle.ieee.specs.Whole.{plus_zero}
 use Rattle.level.specs.Level.{one}
 use Rattle.noise.specs.Local.{Burst, burst, empty_mean, factors_of}
-use Rattle.noise.specs.declared.Factors.{Factors}
-use Rattle.noise.specs.declared.Factors.TheVariants.{Done, Refused}
 
 -- what the entry is asked
 pub record Asked : Type 0 where
@@ -48,11 +46,6 @@ out_of_range rows eps r noise energies =
     ltb 2048 rows
     || (outside plus_zero half eps
     || (outside one thousand r || (some_of (outside least_noise billion) noise || some_of (outside plus_zero billion) energies)))
-
--- the answer's cases in document 01's words
-abbrev pub meaning : Factors → Outcome Unit
-meaning Done = accepted tt
-meaning (Refused k) = refused k
 
 -- with a list of that many factors lent
 abbrev pub causes : Asked → ℕ → List Cause

@@ -7,12 +7,15 @@ ghost use Rattle.std.specs.Float.{nan, binary32};
 ghost use Rattle.std.specs.Float.Ieee.{div};
 ghost use Rattle.util.specs.Choose.{choose};
 ghost use Rattle.util.specs.Some.{some_of};
+ghost use Rattle.util.specs.Refusal.{meaning};
 ghost use Rattle.root.specs.Root.{root_of};
 ghost use Rattle.level.specs.Level.{one, three};
 ghost use Rattle.nearby.specs.Inside.{Put, Nearby};
 ghost use Rattle.noise.specs.Local.{Burst, burst, factor_from, factor_at, factors_of};
-ghost use Rattle.noise.specs.Entry.{asked, outside, out_of_range, sizes, meaning, noise_answer, factors_after, AtLeastOne};
+ghost use Rattle.noise.specs.Entry.{asked, outside, out_of_range, sizes, noise_answer, factors_after, AtLeastOne};
 ghost use Rattle.noise.specs.Inside.{Lent, Errors, Ready, numbered};
+
+use util::refusal::Refusal;
 
 // Two standard errors of a mean of c values, for c from 1 to 25.
 fn two_errors() -> [f32; 26]
@@ -42,7 +45,7 @@ fn factor(sum: f32, count: u32, empty: f32, less: f32, level: f32) -> f32
 {
     let mean = sum / (count as f32) / empty - less;
     let bin = if count >= 6 { mean } else { 1.0 };
-    level::larger(level::larger(bin, level), 1.0)
+    ieee::larger(ieee::larger(bin, level), 1.0)
 }
 
 // The factors of a row, 1 beyond the bins that are read.
@@ -177,62 +180,34 @@ fn make(
 fn is_outside(lo: f32, hi: f32, x: f32) -> bool
     ensures { result ≡ outside lo hi x }
 {
-    if lo <= x {
-        return !(x <= hi);
-    }
-    true
+    !(lo <= x && x <= hi)
 }
 
 // Whether some of a list is not from lo to hi.
 fn some_outside(lo: f32, hi: f32, list: &[f32]) -> bool
     ensures { result ≡ some_of (outside lo hi) list.now }
 {
-    for i in 0..list.len() {
-        if is_outside(lo, hi, list[i]) {
-            return true;
-        }
-    }
-    false
+    list.iter().any(|x| is_outside(lo, hi, *x))
 }
 
 // Whether anything that is asked is out of its range (refusal 15): of the noise and of a row all 52 bins, those too that are not read.
 fn out_of_range(rows: u32, eps: f32, r: f32, noise: &[f32], energies: &[f32]) -> bool
     ensures { result ≡ out_of_range rows eps r noise.now energies.now }
 {
-    if rows > 2048 {
-        return true;
-    }
-    if is_outside(0.0, 0.5, eps) {
-        return true;
-    }
-    if is_outside(1.0, 1000.0, r) {
-        return true;
-    }
-    if some_outside(0.00000095367431640625, 1_000_000_000.0, noise) {
-        return true;
-    }
-    some_outside(0.0, 1_000_000_000.0, energies)
+    rows > 2048
+        || is_outside(0.0, 0.5, eps)
+        || is_outside(1.0, 1000.0, r)
+        || some_outside(0.00000095367431640625, 1_000_000_000.0, noise)
+        || some_outside(0.0, 1_000_000_000.0, energies)
 }
 
 // Whether every list has its length.
+#[tactic(auto, unfolding(crate::specs::Entry::sizes))]
 fn sized(rows: u32, energies: usize, noise: usize, factors: usize) -> bool
     ensures { result ≡ sizes rows energies noise factors }
 {
     let n = 52 * (rows as usize);
-    if energies != n {
-        return false;
-    }
-    if noise != 52 {
-        return false;
-    }
-    factors == n
-}
-
-// Done, or the refusal's number.
-#[derive(Clone, Copy)]
-pub enum Factors {
-    Done,
-    Refused(u8),
+    energies == n && noise == 52 && factors == n
 }
 
 // Public entry: the local noise factors of a burst (document 02, #108).
@@ -245,21 +220,19 @@ pub fn local_noise(
     eps: f32,
     r: f32,
     factors: &mut [f32],
-) -> Factors
+) -> Result<(), Refusal>
     ensures answer { meaning result ≡ noise_answer (asked mode kind rows energies.now noise.now eps r)
         (length factors.old) }
     ensures lent { factors.new ≡ factors_after (asked mode kind rows energies.now noise.now eps r)
         factors.old }
     ensures least { AtLeastOne (meaning result) factors.new }
 {
-    if !frame::is_named(mode, kind) {
-        return Factors::Refused(1);
-    }
+    frame::format::named(mode, kind)?;
     if !sized(rows, energies.len(), noise.len(), factors.len()) {
-        return Factors::Refused(4);
+        return Err(Refusal::Length);
     }
     if out_of_range(rows, eps, r, noise, energies) {
-        return Factors::Refused(15);
+        return Err(Refusal::Noise);
     }
     make(
         mode,
@@ -270,5 +243,5 @@ pub fn local_noise(
         1.0 + eps * (r - 1.0),
         factors,
     );
-    Factors::Done
+    Ok(())
 }

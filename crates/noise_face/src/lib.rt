@@ -4,6 +4,8 @@
 ghost use Rattle.noise.specs.Entry.{asked};
 ghost use Rattle.noise_face.specs.Face.{NoiseFace};
 
+use util::refusal::number_told;
+
 // Inside: the entry as C calls it.
 pub fn local(
     mode: u8,
@@ -18,8 +20,5 @@ pub fn local(
     ensures face { NoiseFace (asked mode kind rows energies.now noise.now eps r) factors.old result
         factors.new }
 {
-    match noise::local_noise(mode, kind, rows, energies, noise, eps, r, factors) {
-        noise::Factors::Done => 0,
-        noise::Factors::Refused(k) => k as u32,
-    }
+    number_told(noise::local_noise(mode, kind, rows, energies, noise, eps, r, factors))
 }

@@ -3,18 +3,16 @@
 // by 11 the mode, by 12 the kind.
 ghost use Rattle.std.specs.Prelude.{◌≡◌, ◌+◌, ◌≤◌, length};
 
-use crate::draws::Asked;
+use crate::draws;
+use crate::draws::{Asked, List};
 
 fn has(a: Asked, k: usize) -> bool {
-    if a.first == k as u64 {
-        return true;
-    }
-    a.second == k as u64
+    a.first == k as u64 || a.second == k as u64
 }
 
 // Each damage has a word of its own.
 fn word(a: Asked, k: usize) -> u64 {
-    crate::draws::drawn(a.seed, crate::draws::DAMAGE, k)
+    draws::drawn(a.seed, List::Damage, k)
 }
 
 // A float out of range: just past either end, an infinity, no number, or -1.
@@ -90,14 +88,14 @@ pub fn eps(a: Asked) -> f32 {
     if has(a, 5) {
         return wire::float_of(bad(word(a, 5), 0x3F00_0001, 0x8000_0001));
     }
-    wire::float_of(crate::draws::eps(a))
+    wire::float_of(draws::eps(a))
 }
 
 pub fn r(a: Asked) -> f32 {
     if has(a, 6) {
         return wire::float_of(bad(word(a, 6), 0x447A_0001, 0x3F7F_FFFF));
     }
-    wire::float_of(crate::draws::r(a))
+    wire::float_of(draws::r(a))
 }
 
 // How many are lent of so many: one too few or one too many by 7, 8 and 9.
@@ -105,22 +103,21 @@ pub fn lent(a: Asked, k: usize, own: usize) -> usize
     requires { own ≤ 106548 }
     ensures { result ≤ own + 1 }
 {
-    if has(a, k) {
-        if own > 0 {
-            if word(a, k) % 2 == 0 {
-                return own - 1;
-            }
-        }
-        return own + 1;
+    if !has(a, k) {
+        return own;
     }
-    own
+    if own > 0 && word(a, k) % 2 == 0 {
+        own - 1
+    } else {
+        own + 1
+    }
 }
 
 // One row more than there are, or 2^30 more, by which 52 times the rows are the same in 32 bits.
 pub fn rows(a: Asked) -> u32 {
     if has(a, 10) {
         let more = if word(a, 10) % 2 == 0 { 1 } else { 0x4000_0000 };
-        return std::num::wrapping_add_u32(a.rows, more);
+        return a.rows.wrapping_add(more);
     }
     a.rows
 }

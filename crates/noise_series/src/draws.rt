@@ -2,7 +2,9 @@
 // languages can round it apart.
 ghost use Rattle.std.specs.Prelude.{◌≤◌};
 
-#[derive(Clone, Copy)]
+use records::mixed;
+
+#[derive(Clone, Copy, Debug, PartialEq, Eq)]
 pub struct Asked {
     pub seed: u64,
     pub rows: u32,
@@ -26,25 +28,27 @@ pub fn asked_of(x: u64) -> Asked {
     }
 }
 
-pub fn mixed(h: u64, x: u64) -> u64 {
-    probe::probe_mix64(h ^ x)
+// The lists that words are drawn for.
+#[derive(Clone, Copy, Debug, PartialEq, Eq)]
+pub enum List {
+    Energies,
+    Noise,
+    Factors,
+    Model,
+    Damage,
+    Rows,
 }
 
-// The lists that words are drawn for.
-pub const ENERGIES: u64 = 0;
-
-pub const NOISE: u64 = 1;
-
-pub const FACTORS: u64 = 2;
-
-const MODEL: u64 = 3;
-
-pub const DAMAGE: u64 = 4;
-
-const ROWS: u64 = 5;
-
-pub fn drawn(seed: u64, list: u64, i: usize) -> u64 {
-    mixed(seed, (list << 56) ^ ((i as u64) << 32))
+pub fn drawn(seed: u64, list: List, i: usize) -> u64 {
+    let place = match list {
+        List::Energies => 0,
+        List::Noise => 1,
+        List::Factors => 2,
+        List::Model => 3,
+        List::Damage => 4,
+        List::Rows => 5u64,
+    };
+    mixed(seed, (place << 56) ^ ((i as u64) << 32))
 }
 
 // Whether a generator is on: in up to eight places, for sixteen rows of every 32.
@@ -63,7 +67,7 @@ fn generator(seed: u64, i: usize, b: u64) -> bool {
 fn raised(seed: u64, i: usize, b: u64) -> u64
     ensures { result ≤ 8 }
 {
-    let row = drawn(seed, ROWS, i);
+    let row = drawn(seed, List::Rows, i);
     if (row >> 8) % 52 == b {
         return 8;
     }
@@ -113,13 +117,13 @@ fn energy_end(x: u64) -> u32 {
 
 // A power of two times its place's noise, for the whole burst the same, so that all are equal.
 fn equal(seed: u64, at: usize) -> u32 {
-    (0x3F00_0000 + drawn(seed, NOISE, at % 52) % 0x0100_0000 + seed % 4 * 0x0080_0000) as u32
+    (0x3F00_0000 + drawn(seed, List::Noise, at % 52) % 0x0100_0000 + seed % 4 * 0x0080_0000) as u32
 }
 
 fn energy(a: Asked, at: usize) -> u32 {
     let seed = a.seed;
     let style = a.style;
-    let x = drawn(seed, ENERGIES, at);
+    let x = drawn(seed, List::Energies, at);
     match style {
         1 => whole(x),
         2 => zero(x),
@@ -141,7 +145,7 @@ fn noise_end(x: u64) -> u32 {
 
 fn noise(a: Asked, b: usize) -> u32 {
     let style = a.style;
-    let x = drawn(a.seed, NOISE, b);
+    let x = drawn(a.seed, List::Noise, b);
     match style {
         1 => (0x3F80_0000 + x % 2 * 0x0080_0000) as u32,
         3 => noise_end(x),
@@ -152,14 +156,14 @@ fn noise(a: Asked, b: usize) -> u32 {
 
 // What the factors are before the call: any finite float.
 fn factor(a: Asked, at: usize) -> u32 {
-    let x = drawn(a.seed, FACTORS, at);
+    let x = drawn(a.seed, List::Factors, at);
     (x % 2 * 0x8000_0000 + (x >> 1) % 0x7F80_0000) as u32
 }
 
-pub fn value(a: Asked, list: u64, at: usize) -> f32 {
+pub fn value(a: Asked, list: List, at: usize) -> f32 {
     let pattern = match list {
-        0 => energy(a, at),
-        1 => noise(a, at),
+        List::Energies => energy(a, at),
+        List::Noise => noise(a, at),
         _ => factor(a, at),
     };
     wire::float_of(pattern)
@@ -175,7 +179,7 @@ fn eps_end(x: u64) -> u32 {
 
 pub fn eps(a: Asked) -> u32 {
     let style = a.style;
-    let x = drawn(a.seed, MODEL, 0);
+    let x = drawn(a.seed, List::Model, 0);
     match style {
         3 => eps_end(x),
         4 => (x % 0x3F00_0001) as u32,
@@ -189,7 +193,7 @@ fn r_end(x: u64) -> u32 {
 
 pub fn r(a: Asked) -> u32 {
     let style = a.style;
-    let x = drawn(a.seed, MODEL, 1);
+    let x = drawn(a.seed, List::Model, 1);
     match style {
         3 => r_end(x),
         4 => (0x3F80_0000 + x % 0x04FA_0001) as u32,

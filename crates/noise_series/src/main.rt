@@ -4,38 +4,11 @@
 // lent, which on a refusal are those from before.
 #![tactic(auto)]
 
-const STDIN: i32 = 0;
-
 mod damage;
 mod draws;
 
-use draws::{Asked, mixed};
-
-fn fill(a: Asked, which: u64, list: &mut [f32]) {
-    for i in 0..list.len() {
-        list[i] = draws::value(a, which, i);
-    }
-}
-
-fn wide(x: u32) -> u64 {
-    x as u64
-}
-
-// NaN has no bits that are defined; no factor is one.
-fn bits(x: f32) -> u64 {
-    if x == x {
-        return wide(f32::to_bits(x));
-    }
-    records::NONE
-}
-
-fn digest(begun: u64, list: &[f32]) -> u64 {
-    let mut h = begun;
-    for i in 0..list.len() {
-        h = mixed(h, bits(list[i]));
-    }
-    h
-}
+use draws::{Asked, List};
+use records::mixed;
 
 fn told(a: Asked, energies: &[f32], noise: &[f32], factors: &mut [f32]) -> u32 {
     ion::local::ion_local_noise(
@@ -52,12 +25,12 @@ fn told(a: Asked, energies: &[f32], noise: &[f32], factors: &mut [f32]) -> u32 {
 
 // Over what is lent of each list.
 fn replayed(a: Asked, energies: &mut [f32], noise: &mut [f32], factors: &mut [f32]) -> u64 {
-    fill(a, draws::ENERGIES, energies);
-    fill(a, draws::NOISE, noise);
-    fill(a, draws::FACTORS, factors);
+    records::fill(energies, |i| draws::value(a, List::Energies, i));
+    records::fill(noise, |i| draws::value(a, List::Noise, i));
+    records::fill(factors, |i| draws::value(a, List::Factors, i));
     damage::lists(a, energies, noise);
     let number = told(a, energies, noise, factors);
-    digest(mixed(a.seed, wide(number)), factors)
+    records::digest(mixed(a.seed, u64::from(number)), factors)
 }
 
 fn answer(what: u8, asked: u64) -> u64 {
@@ -84,21 +57,6 @@ fn answer(what: u8, asked: u64) -> u64 {
     )
 }
 
-// How many of the records agree.
-fn agreeing(s: &[u8]) -> u64 {
-    let mut same: u64 = 0;
-    for i in 0..records::count(s) {
-        let record = records::nth(s, i);
-        if records::agrees(record, answer(record.what, record.asked)) {
-            same = std::num::wrapping_add_u64(same, 1);
-        }
-    }
-    same
-}
-
-fn main() {
-    let mut buffer = io::large_buffer();
-    let n = io::read_full(STDIN, &mut buffer);
-    let s = &buffer[..n];
-    records::tally(agreeing(s), records::count(s));
+fn main(rt: HostRuntime) {
+    records::replay(&mut rt.stdin(), rt.stdout(), answer);
 }

@@ -13,7 +13,7 @@ ghost use Rattle.outcome.specs.Numbers.{outcome_number, pass_number, outcome_at}
 // How sure the word is (document 02, #107); each carries the word's score. A word that is out by closing, or is the best candidate
 // after three passes, is Sure where its score is at or above the ceiling, with the last pass run. Below it the one is Likely, with
 // its pass (2 or 3), and the other Kept. Open is the last unclosed word.
-#[derive(Clone, Copy)]
+#[derive(Clone, Copy, Debug, PartialEq)]
 pub enum Outcome {
     Sure(f32, u8),
     Likely(f32, u8),
@@ -60,7 +60,7 @@ pub fn outcome_of(how: search::How, score: f32, ceiling: f32) -> Outcome
 }
 
 // 0 Sure, 1 Kept, 2 Open, 3 Likely; the pass of a Sure or a Likely, else 0; the score.
-#[derive(Clone, Copy)]
+#[derive(Clone, Copy, Debug, PartialEq)]
 pub struct Numbers {
     pub outcome: u8,
     pub pass: u8,
@@ -100,14 +100,10 @@ pub fn in_numbers(outcome: Outcome) -> Numbers
 pub fn from_numbers(outcome: u8, pass: u8, x: f32) -> Outcome
     ensures { outcome_is result ≡ outcome_at outcome pass x }
 {
-    if outcome == 0 {
-        return Outcome::Sure(x, pass);
+    match outcome {
+        0 => Outcome::Sure(x, pass),
+        1 => Outcome::Kept(x),
+        3 => Outcome::Likely(x, pass),
+        _ => Outcome::Open(x),
     }
-    if outcome == 1 {
-        return Outcome::Kept(x);
-    }
-    if outcome == 3 {
-        return Outcome::Likely(x, pass);
-    }
-    Outcome::Open(x)
 }

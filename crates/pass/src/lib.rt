@@ -21,8 +21,8 @@ fn decision(a: f32, b: f32) -> u64
     (b > a) as u64
 }
 
-// The survivor's path metric.
-fn greater(a: f32, b: f32) -> f32
+// Inside: the survivor's path metric.
+pub fn greater(a: f32, b: f32) -> f32
     ensures { result ≡ choose (lt a b) b a }
 {
     if b > a { b } else { a }
@@ -54,9 +54,7 @@ fn states(
 {
     let row = labels::row(labels, w * 64);
     let mut word = 0u64;
-    let mut k = 64usize;
-    while 0 < k {
-        k -= 1;
+    for k in (0..64usize).rev() {
         let s = w * 64 + k;
         let label = row[k] as usize;
         let a = path_metric(scores, metrics, j, s, label);
@@ -82,10 +80,8 @@ fn step(
         × (length decisions.old ≡ steps_in metrics.now * 256) }
     ensures { Stepped metrics.now scores.now j next.new decisions.old decisions.new }
 {
-    let mut w = 0usize;
-    while w < 256 {
+    for w in 0..256 {
         decisions[j * 256 + w] = states(scores, metrics, labels, j, w, next);
-        w += 1;
     }
 }
 
@@ -125,11 +121,9 @@ pub fn pass(
 {
     opening(metrics, labels, scores, next, start, decisions);
     let steps = metrics.len() / 32;
-    let mut j = 2usize;
-    while j < steps {
+    for j in (2..steps).step_by(2) {
         step(scores, metrics, labels, j, next, decisions);
         step(next, metrics, labels, j + 1, scores, decisions);
-        j += 2;
     }
 }
 
@@ -139,12 +133,10 @@ pub fn end_state(scores: &[f32]) -> usize
     ensures { (result ≡ highest single (table scores.now) 16384) × (result < 16384) }
 {
     let mut best = 0usize;
-    let mut s = 0usize;
-    while s < 16384 {
-        if scores[s] > scores[best] {
+    for (s, score) in scores.iter().enumerate() {
+        if *score > scores[best] {
             best = s;
         }
-        s += 1;
     }
     best
 }
@@ -156,10 +148,9 @@ pub fn top_gain(scores: &[f32], start: &[f32]) -> f32
     ensures { result ≡ top_in scores.now start.now }
 {
     let mut top = scores[0] - start[0];
-    let mut s = 1usize;
-    while s < 16384 {
+    // Over indices: the same place of two lists, from the second on.
+    for s in 1..16384 {
         top = greater(top, scores[s] - start[s]);
-        s += 1;
     }
     top
 }

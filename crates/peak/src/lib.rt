@@ -15,10 +15,8 @@ fn more(lanes: &[f32; 16], scores: &[f32], i: usize) -> [f32; 16]
     ensures { Lanes (table scores.now) (i + 1) result }
 {
     let mut r = [0.0f32; 16];
-    let mut k = 0usize;
-    while k < 16 {
-        r[k] = butterfly::greater(lanes[k], scores[i * 16 + k]);
-        k += 1;
+    for k in 0..16usize {
+        r[k] = pass::greater(lanes[k], scores[i * 16 + k]);
     }
     r
 }
@@ -30,10 +28,8 @@ fn more_gains(lanes: &[f32; 16], scores: &[f32], start: &[f32], i: usize) -> [f3
     ensures { Lanes (gain_in scores.now start.now) (i + 1) result }
 {
     let mut r = [0.0f32; 16];
-    let mut k = 0usize;
-    while k < 16 {
-        r[k] = butterfly::greater(lanes[k], scores[i * 16 + k] - start[i * 16 + k]);
-        k += 1;
+    for k in 0..16usize {
+        r[k] = pass::greater(lanes[k], scores[i * 16 + k] - start[i * 16 + k]);
     }
     r
 }
@@ -43,10 +39,8 @@ fn of_all(lanes: &[f32; 16]) -> f32
     ensures { result ≡ greatest (table lanes.now) 16 }
 {
     let mut top = lanes[0];
-    let mut k = 1usize;
-    while k < 16 {
-        top = butterfly::greater(top, lanes[k]);
-        k += 1;
+    for k in 1..16usize {
+        top = pass::greater(top, lanes[k]);
     }
     top
 }
@@ -57,10 +51,8 @@ fn peak(scores: &[f32]) -> f32
     ensures { Peak (table scores.now) 16384 result }
 {
     let mut lanes = [scores[0]; 16];
-    let mut i = 0usize;
-    while i < 1024 {
+    for i in 0..1024usize {
         lanes = more(&lanes, scores, i);
-        i += 1;
     }
     of_all(&lanes)
 }
@@ -71,10 +63,8 @@ fn peak_gain(scores: &[f32], start: &[f32]) -> f32
     ensures { Peak (gain_in scores.now start.now) 16384 result }
 {
     let mut lanes = [scores[0] - start[0]; 16];
-    let mut i = 0usize;
-    while i < 1024 {
+    for i in 0..1024usize {
         lanes = more_gains(&lanes, scores, start, i);
-        i += 1;
     }
     of_all(&lanes)
 }
@@ -85,12 +75,10 @@ pub fn end_state(scores: &[f32]) -> usize
     ensures { (result ≡ highest single (table scores.now) 16384) × (result < 16384) }
 {
     let top = peak(scores);
-    let mut s = 0usize;
-    while s < 16384 {
+    for s in 0..16384usize {
         if scores[s] >= top {
             return s;
         }
-        s += 1;
     }
     0
 }
@@ -102,13 +90,11 @@ pub fn top_gain(scores: &[f32], start: &[f32]) -> f32
     ensures { result ≡ top_in scores.now start.now }
 {
     let top = peak_gain(scores, start);
-    let mut s = 0usize;
-    while s < 16384 {
+    for s in 0..16384usize {
         let gain = scores[s] - start[s];
         if gain >= top {
             return gain;
         }
-        s += 1;
     }
     scores[0] - start[0]
 }

@@ -13,14 +13,12 @@ fn whole_root(t: u64) -> u64
 {
     let mut m = 0;
     let mut w = 0x80_0000;
-    let mut k = 24u32;
-    while 0 < k {
+    for _ in 0..24u32 {
         let next = m + w;
         if next * next < t + next {
             m = next;
         }
         w = w / 2;
-        k -= 1;
     }
     m
 }

@@ -15,10 +15,9 @@ fn append(out: &mut [u8], at: usize, s: &[u8]) -> usize
     ensures end { result ≡ at + length s.now }
     ensures text { take result out.new ≡ take at out.old ++ s.now }
 {
-    for i in 0..s.len() {
-        out[at + i] = s[i];
-    }
-    at + s.len()
+    let end = at + s.len();
+    out[at..end].copy_from_slice(s);
+    end
 }
 
 // A count below 100 in decimal, behind the `at` bytes that are there.
@@ -72,6 +71,6 @@ fn main(rt: HostRuntime) {
     let mut text = [0u8; 624];
     let long = lines(&mut text);
     if let Err(error) = Print::write_all(&rt, &text[..long]) {
-        say::fail(b"roots: standard output", &error);
+        say::fail(rt.stderr(), b"roots: standard output", &error);
     }
 }

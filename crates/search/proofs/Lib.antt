@@ -1,4 +1,3 @@
 -- Laws between areas and the definitions of crate trellis, for this crate's own proofs and the header read's.
-pub mod Lengths
 pub mod Passes
 mod Rounds

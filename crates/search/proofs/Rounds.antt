@@ -25,13 +25,13 @@ use Rattle.traceback.specs.Scan.{scanned}
 use Rattle.search.specs.Passed.{Passed}
 use Rattle.traceback.specs.Best.{best_is}
 use Rattle.search.specs.Found.{best_or_last}
+use Rattle.std.specs.Prelude.{Option as Held, None}
 use Rattle.traceback.specs.declared.Best.{Best}
-use Rattle.traceback.specs.declared.Best.TheVariants.{Nothing}
 use Rattle.search.specs.declared.Traceback.{Traceback}
 use Rattle.search.proofs.Passes.{passed-same, scanned-same}
 
 -- pass k, counted from 0, is about to begin
-pub record Begun (metrics scores next start : List Float) (decisions : List ℕ) (b : Best) (c : Float) (k : ℕ) : Type 0 where
+pub record Begun (metrics scores next start : List Float) (decisions : List ℕ) (b : Held Best) (c : Float) (k : ℕ) : Type 0 where
   pub lent : Lent metrics scores next start decisions
   pub few : k ≤ 2
   pub held : (s : ℕ) → s < 16384 → table start s ≡ begin (over metrics) k s
@@ -41,7 +41,7 @@ pub record Begun (metrics scores next start : List Float) (decisions : List ℕ)
 
 -- the first pass begins with all scores at 0.0
 pub first : {metrics scores next start zeros : List Float} {decisions : List ℕ} {c : Float} → Lent metrics scores next start decisions
-    → zeros ≡ replicate (length start) plus_zero → Begun metrics scores next zeros decisions Nothing c 0
+    → zeros ≡ replicate (length start) plus_zero → Begun metrics scores next zeros decisions None c 0
 unfolding begin best
 first {start = start} lent e =
     record {
@@ -89,7 +89,7 @@ module _ {A : Type 0} (X : Trellis A) where
       (not_chosen (word_in X (closing 3) 2) (settled X (best X 3)) (unmet 2 (omega arith)))
 
 -- a pass has run from there
-module _ {metrics scores next start : List Float} {decisions : List ℕ} {b : Best} {c : Float} {k : ℕ}
+module _ {metrics scores next start : List Float} {decisions : List ℕ} {b : Held Best} {c : Float} {k : ℕ}
     (begun : Begun metrics scores next start decisions b c k)
     {scores' : List Float} {decisions' : List ℕ} {t : Traceback} (passed : Passed metrics (table start) scores' decisions' t) where
   here : Passed metrics (begin (over metrics) k) scores' decisions' t
@@ -120,7 +120,7 @@ module _ {metrics scores next start : List Float} {decisions : List ℕ} {b : Be
   out-ceiling e l = l ∙ sym (ceiling-closing (over metrics) k begun.few begun.unclosed (sym closed_is ∙ e))
 
   -- its candidates are counted in
-  pub counted : (b' : Best) → best_is b' ≡ scanned (packed decisions') (steps_in metrics) (table scores') (table start) (best_is b) 16384
+  pub counted : (b' : Held Best) → best_is b' ≡ scanned (packed decisions') (steps_in metrics) (table scores') (table start) (best_is b) 16384
       → best_is b' ≡ best (over metrics) (suc k)
   unfolding best
   counted b' c =
@@ -132,7 +132,7 @@ module _ {metrics scores next start : List Float} {decisions : List ℕ} {b : Be
   unclosed-too e i h = below_more (λ (i : ℕ). closes_in (over metrics) i ≡ false) k begun.unclosed (sym closed_is ∙ e) i (omega arith)
 
   -- the next pass begins
-  pub next-begins : {next' low : List Float} {r : Float} (b' : Best) → t.closed ≡ false → suc k ≤ 2 → best_is b' ≡ best (over metrics) (suc k)
+  pub next-begins : {next' low : List Float} {r : Float} (b' : Held Best) → t.closed ≡ false → suc k ≤ 2 → best_is b' ≡ best (over metrics) (suc k)
       → r ≡ ceiling_to (over metrics) k → ((s : ℕ) → s < 16384 → table low s ≡ sub binary32 (table scores' s) t.top)
       → Lent metrics scores' next' low decisions' → Begun metrics scores' next' low decisions' b' r (suc k)
   unfolding begin
@@ -150,7 +150,7 @@ module _ {metrics scores next start : List Float} {decisions : List ℕ} {b : Be
   pub over-ceiling : t.closed ≡ false → k ≡ 2 → {r : Float} → r ≡ ceiling_to (over metrics) k → r ≡ ceiling (over metrics)
   over-ceiling e two l = l ∙ ap (ceiling_to (over metrics)) two ∙ sym (ceiling-settled (over metrics) (λ i h. unclosed-too e i (omega arith)))
 
-  pub over-all : (b' : Best) → t.closed ≡ false → k ≡ 2 → best_is b' ≡ best (over metrics) (suc k)
+  pub over-all : (b' : Held Best) → t.closed ≡ false → k ≡ 2 → best_is b' ≡ best (over metrics) (suc k)
       → best_or_last (best_is b') t.word t.score ≡ search (over metrics)
   unfolding settled
   over-all b' e two c =

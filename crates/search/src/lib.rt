@@ -3,12 +3,11 @@
 // candidates are crate `traceback`. What it answers is document 01's search, as crate trellis defines it, at f32.
 #![tactic(auto)]
 
-ghost use Rattle.std.specs.Prelude.{◌≡◌, ◌*◌, ◌<◌, length, replicate, eqb};
+ghost use Rattle.std.specs.Prelude.{◌≡◌, ◌*◌, ◌<◌, length, eqb};
 ghost use Rattle.std.specs.Float.Ieee.{sub};
 ghost use Rattle.std.specs.Float.{binary32};
 ghost use Rattle.util.specs.Choose.{choose};
 ghost use Rattle.labels.specs.Labels.{Lawful};
-ghost use Rattle.ieee.specs.Whole.{plus_zero};
 ghost use Rattle.trellis.specs.Scale.{lesser};
 ghost use Rattle.trellis.specs.Numbers.{single};
 ghost use Rattle.trellis.specs.Search as Search;
@@ -25,38 +24,14 @@ fn lower(scores: &[f32], top: f32, start: &mut [f32])
     requires { (length scores.now ≡ 16384) × (length start.old ≡ 16384) }
     ensures { Holds start.new (λ s. sub binary32 (table scores.now s) top) }
 {
-    let mut s = 0usize;
-    while s < 16384 {
-        start[s] = scores[s] - top;
-        s += 1;
-    }
-}
-
-// Inside: all scores 0.0: how the first pass starts, and how a score area is left.
-pub fn clear(area: &mut [f32])
-    ensures { area.new ≡ replicate (length area.old) plus_zero }
-{
-    let mut s = 0usize;
-    while s < area.len() {
-        area[s] = 0.0;
-        s += 1;
-    }
-}
-
-// Inside: how the area of the decisions is left.
-pub fn clear_decisions(area: &mut [u64])
-    ensures { area.new ≡ replicate (length area.old) 0 }
-{
-    let mut i = 0usize;
-    while i < area.len() {
-        area[i] = 0;
-        i += 1;
+    for (s, score) in start.iter_mut().enumerate() {
+        *score = scores[s] - top;
     }
 }
 
 // What a pass found from its end state: the word and its score, whether it closes, and the best score. Beside them the
 // pass's top, the greatest gain of any state (document 02, #106).
-#[derive(Clone, Copy)]
+#[derive(Clone, Copy, Debug, PartialEq)]
 struct Traceback {
     word: u64,
     score: f32,
@@ -88,7 +63,8 @@ fn found_by(metrics: &[f32], scores: &[f32], start: &[f32], decisions: &[u64]) -
     }
 }
 
-// A pass from what `start` holds, and its traceback.
+// A pass from what `start` holds, and its traceback. (The areas are four parameters: a struct of `&mut` slices may have no ghost field for
+// their lengths, which the record `Lent` states at once.)
 fn run(
     metrics: &[f32],
     labels: &[u16],
@@ -106,7 +82,7 @@ fn run(
 }
 
 // How a word came out: by closing in a pass (1 to 3), as the best candidate, or unclosed.
-#[derive(Clone, Copy)]
+#[derive(Clone, Copy, Debug, PartialEq, Eq)]
 pub enum How {
     Closing(u8),
     Candidate,
@@ -114,7 +90,7 @@ pub enum How {
 }
 
 // What the search found, and its ceiling.
-#[derive(Clone, Copy)]
+#[derive(Clone, Copy, Debug, PartialEq)]
 pub struct Found {
     pub how: How,
     pub word: u64,
@@ -136,18 +112,18 @@ fn ceiling_after(pass: u8, ceiling: f32, gain: f32) -> f32
 }
 
 // After three passes: the best candidate, or else the last unclosed word.
-fn best_or_last(best: Best, last: Traceback, ceiling: f32) -> Found
+fn best_or_last(best: Option<Best>, last: Traceback, ceiling: f32) -> Found
     ensures answer { found_is result ≡ best_or_last (best_is best) last.word last.score }
     ensures ceiling { result.ceiling ≡ ceiling }
 {
     match best {
-        Best::Word(word, gain) => Found {
+        Some(best) => Found {
             how: How::Candidate,
-            word,
-            score: gain,
+            word: best.word,
+            score: best.gain,
             ceiling,
         },
-        Best::Nothing => Found {
+        None => Found {
             how: How::Unclosed,
             word: last.word,
             score: last.score,
@@ -172,10 +148,11 @@ pub fn search(
     ensures ceiling { result.ceiling ≡ Search.ceiling (over metrics.now) }
     ensures lent { Lent metrics.now scores.new next.new start.new decisions.new }
 {
-    clear(start);
+    start.fill(0.0);
     let steps = metrics.len() / 32;
-    let mut best = Best::Nothing;
+    let mut best = None;
     let mut ceiling = 0.0f32;
+    // A `loop` and no `for` over the passes: the third ends it with its own traceback, which a `for` would have to carry out.
     let mut pass = 1u8;
     loop {
         let t = run(metrics, labels, scores, next, start, decisions);

@@ -7,26 +7,24 @@
 mod arguments;
 mod input;
 
+use arguments::Asked;
 use segments_lines::listed;
-use std::io::{Read, Stdout};
+use std::io::{Read, Stderr, Stdout};
 
 // The board's 512 places of 44 bytes, of which none is listed at the start.
-fn run<R: Read>(input: &mut R, to: Stdout) {
+fn run<R: Read>(input: &mut R, to: Stdout, and: Stderr) {
     let mut board = [0u8; 22528];
     let mut count = 0u32;
-    input::put_all(input, &mut board, &mut count);
-    listed::print(to, &board, count);
+    input::put_all(input, and, &mut board, &mut count);
+    if let Err(error) = listed::print(to, &board, count) {
+        say::fail(and, b"segments: standard output", &error);
+    }
 }
 
 fn main(rt: HostRuntime) {
-    let asked = arguments::given(&rt);
-    if asked.unknown > 0 {
-        arguments::refuse(&rt, asked.unknown);
-        return;
+    match arguments::given(&rt) {
+        Err(unknown) => arguments::refuse(&rt, rt.stderr(), unknown),
+        Ok(Asked::Help) => arguments::help(rt.stdout(), rt.stderr()),
+        Ok(Asked::Board) => run(&mut rt.stdin(), rt.stdout(), rt.stderr()),
     }
-    if asked.help {
-        arguments::help(rt.stdout());
-        return;
-    }
-    run(&mut rt.stdin(), rt.stdout());
 }

@@ -1,9 +1,9 @@
 // A fit by a record: the drift of blocks worked out from the seed, as its bits.
 ghost use Rattle.std.specs.Prelude.{◌≡◌, ◌≤◌, length};
 
-use crate::draws::{below, bits, drawn};
+use crate::draws::{below, drawn};
 use blocks::Block;
-use fit::Fit;
+use records::Bits;
 
 // Places rise by 1 to 127 half symbols.
 fn place2(seed: u64, i: usize) -> u32 {
@@ -15,10 +15,8 @@ fn place2(seed: u64, i: usize) -> u32 {
 
 // A line with noise, and block 1 out of range where that is asked.
 fn timing(seed: u64, bad: bool, i: usize) -> f64 {
-    if bad {
-        if i == 1 {
-            return 5000.0;
-        }
+    if bad && i == 1 {
+        return 5000.0;
     }
     if i > 63 {
         return 0.0;
@@ -39,9 +37,7 @@ fn blocks_of(seed: u64, bad: bool) -> [Block; 64] {
         place2: 0,
         timing: 0.0,
     }; 64];
-    for i in 0..64 {
-        out[i] = block(seed, bad, i);
-    }
+    records::fill(&mut out, |i| block(seed, bad, i));
     out
 }
 
@@ -50,18 +46,16 @@ fn fit_entry(mode: u8, n: usize, seed: u64, bad: bool) -> u64
 {
     let blocks = blocks_of(seed, bad);
     match by_value::fitted(mode, n, blocks) {
-        Fit::Drift(d) => bits(d),
-        Fit::Refused(k) => records::refusal(k as u32),
+        Ok(d) => d.bits(),
+        Err(r) => records::refusal(u32::from(r.number())),
     }
 }
 
 fn lists_of(seed: u64, bad: bool, places: &mut [u32], timings: &mut [f64])
     requires { length timings.old ≡ length places.old }
 {
-    for i in 0..places.len() {
-        places[i] = place2(seed, i);
-        timings[i] = timing(seed, bad, i);
-    }
+    records::fill(places, |i| place2(seed, i));
+    records::fill(timings, |i| timing(seed, bad, i));
 }
 
 fn fit_face(mode: u8, seed: u64, bad: bool, places: &mut [u32], timings: &mut [f64]) -> u64
@@ -71,7 +65,7 @@ fn fit_face(mode: u8, seed: u64, bad: bool, places: &mut [u32], timings: &mut [f
     let mut drift = 0.0;
     let k = ion::timing::ion_fit_drift(mode, places, timings, &mut drift);
     if k == 0 {
-        bits(drift)
+        drift.bits()
     } else {
         records::refusal(k)
     }

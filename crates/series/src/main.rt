@@ -4,8 +4,6 @@
 // out of range.
 #![tactic(auto)]
 
-const STDIN: i32 = 0;
-
 mod draws;
 mod fits;
 mod tracks;
@@ -26,21 +24,6 @@ fn answer(what: u8, asked: u64) -> u64 {
     fits::fit(face, mode, n, seed, bad)
 }
 
-// How many of the records agree.
-fn agreeing(s: &[u8]) -> u64 {
-    let mut same: u64 = 0;
-    for i in 0..records::count(s) {
-        let record = records::nth(s, i);
-        if records::agrees(record, answer(record.what, record.asked)) {
-            same = std::num::wrapping_add_u64(same, 1);
-        }
-    }
-    same
-}
-
-fn main() {
-    let mut buffer = io::large_buffer();
-    let n = io::read_full(STDIN, &mut buffer);
-    let s = &buffer[..n];
-    records::tally(agreeing(s), records::count(s));
+fn main(rt: HostRuntime) {
+    records::replay(&mut rt.stdin(), rt.stdout(), answer);
 }

@@ -2,9 +2,11 @@
 // then the tracker and both lists whole.
 ghost use Rattle.std.specs.Prelude.{◌≡◌, length};
 
-use crate::draws::{below, bits, drawn, mixed};
+use crate::draws::{below, drawn};
 use blocks::Block;
-use tracker::{Sample, Tracked, Tracker};
+use records::{Bits, mixed};
+use tracker::{Sample, Tracker};
+use util::refusal::number_told;
 
 // What a symbol gave: one in eight is Missed, and one in 64 is out of range.
 fn heard(x: u64) -> bool {
@@ -35,51 +37,46 @@ fn sample(seed: u64, x: u64) -> Sample {
     }
 }
 
-fn number(answer: Tracked) -> u64 {
-    match answer {
-        Tracked::Done => 0,
-        Tracked::Refused(k) => k as u64,
-    }
-}
-
 fn digest_tracker(h: u64, t: Tracker) -> u64 {
-    let z = t.shift;
-    let a = mixed(mixed(h, t.n as u64), bits(z as f64));
-    let b = mixed(mixed(mixed(a, bits(t.tnum)), bits(t.tden)), bits(t.drift));
-    mixed(b, t.blocks as u64)
+    let z = f64::from(t.shift);
+    records::digest(
+        h,
+        &[
+            t.n as u64,
+            z.bits(),
+            t.tnum.bits(),
+            t.tden.bits(),
+            t.drift.bits(),
+            t.blocks as u64,
+        ],
+    )
 }
 
 fn digest_shifts(begun: u64, shifts: &[i32]) -> u64 {
-    let mut h = begun;
-    for i in 0..shifts.len() {
-        let z = shifts[i];
-        h = mixed(h, bits(z as f64));
-    }
-    h
+    shifts
+        .iter()
+        .fold(begun, |h, z| mixed(h, f64::from(*z).bits()))
 }
 
 fn digest_block(h: u64, b: Block) -> u64 {
-    mixed(mixed(h, b.place2 as u64), bits(b.timing))
+    mixed(mixed(h, u64::from(b.place2)), b.timing.bits())
 }
 
 fn digest_blocks(begun: u64, blocks: [Block; 64]) -> u64 {
-    let mut h = begun;
-    for i in 0..64 {
-        h = digest_block(h, blocks[i]);
-    }
-    h
+    blocks.iter().fold(begun, |h, b| digest_block(h, *b))
 }
 
-fn digest_lists(begun: u64, places: &[u32], timings: &[f64]) -> u64
-    requires { length timings.now ≡ length places.now }
-{
-    let mut h = begun;
-    for i in 0..places.len() {
-        let place2 = places[i];
-        let timing = timings[i];
-        h = digest_block(h, Block { place2, timing });
-    }
-    h
+fn digest_lists(begun: u64, places: &[u32], timings: &[f64]) -> u64 {
+    places
+        .iter()
+        .zip(timings)
+        .fold(begun, |h, (place2, timing)| {
+            let block = Block {
+                place2: *place2,
+                timing: *timing,
+            };
+            digest_block(h, block)
+        })
 }
 
 // A series through the entry itself, from a fresh tracker.
@@ -99,7 +96,7 @@ fn track_entry(mode: u8, calls: usize, seed: u64, shifts: &mut [i32]) -> u64 {
         let answer = held.answer;
         tracker = t;
         blocks = bs;
-        h = mixed(h, number(answer));
+        h = mixed(h, u64::from(number_told(answer)));
     }
     digest_blocks(digest_shifts(digest_tracker(h, tracker), shifts), blocks)
 }

@@ -12,12 +12,6 @@ use Rattle.slip.specs.Spelling.{spell}
 use Rattle.slip.specs.Lawful.{lawful}
 use Rattle.slip.specs.declared.Slip.{Slip}
 use Rattle.slip.specs.declared.Fields.{Fields}
-use Rattle.slip.specs.declared.Written.{Written}
-use Rattle.slip.specs.declared.Written.TheVariants as Wrote
-use Rattle.slip.specs.declared.SlipRead.{SlipRead}
-use Rattle.slip.specs.declared.SlipRead.TheVariants as Read
-use Rattle.slip.specs.declared.FieldsRead.{FieldsRead}
-use Rattle.slip.specs.declared.FieldsRead.TheVariants as Found
 
 -- a slip's values as the numbers that it holds
 abbrev pub numbers_of : ℕ → ℕ → ℕ → Answer.Outcome Float → ℕ → ℕ → Fields
@@ -41,10 +35,6 @@ abbrev pub answer_fields : ℕ → ℕ → Answer Float → ℕ → ℕ → Fiel
 answer_fields mode kind a start segment = numbers_of mode kind a.word a.outcome start segment
 
 -- ---- the writer
-
-abbrev pub written_is : Written → Outcome Unit
-written_is Wrote.Done = accepted tt
-written_is (Wrote.Refused k) = refused k
 
 -- 4 for a lent buffer of another length than the slip's; 13 for other values than a slip's
 abbrev pub causes : Fields → ℕ → List Cause
@@ -92,14 +82,6 @@ read_causes b = (record { holds = not (is_slip b); number = 13 }) ∷ []
 
 abbrev pub reading : List ℕ → Outcome Fields
 reading b = outcome (read_causes b) (taken b)
-
-abbrev pub fields_is : FieldsRead → Outcome Fields
-fields_is (Found.Good f) = accepted f
-fields_is (Found.Refused k) = refused k
-
-abbrev pub slip_is : SlipRead → Outcome Fields
-slip_is (Read.Good s) = accepted (fields_of s)
-slip_is (Read.Refused k) = refused k
 
 -- what a reader may answer to a string, where these values are lawful: the lawful slip that is spelt as it; 13 where no lawful slip is
 abbrev pub ReadsBy : (Fields → Bool) → List ℕ → Outcome Fields → Type 0

@@ -10,7 +10,10 @@ ghost use Rattle.frame.specs.Format.{header_bits};
 ghost use Rattle.wire.specs.Bytes.{big};
 ghost use Rattle.slip.specs.Spelling.{field, spell, outcome_value};
 ghost use Rattle.slip.specs.Lawful.{pass_goes, lawful};
-ghost use Rattle.slip.specs.Slips.{fields_of, written_is, writing, written, taken, fields_is, slip_is, reading, Reads};
+ghost use Rattle.util.specs.Refusal.{meaning, meaning_by};
+ghost use Rattle.slip.specs.Slips.{fields_of, writing, written, taken, reading, Reads};
+
+use util::refusal::Refusal;
 
 // What the shed computer is told of a burst: its header as read, the sample at which it starts, and its segment's number.
 #[derive(Clone, Copy)]
@@ -23,8 +26,9 @@ pub struct Slip {
     pub segment: u16,
 }
 
-// The same as the numbers that a slip holds: 0 Sure, 1 Kept, 2 Open, 3 Likely; the pass of a Sure or a Likely, else 0.
-#[derive(Clone, Copy)]
+// The same as the numbers that a slip and C have for it, as they may stand in any string: 0 Sure, 1 Kept, 2 Open, 3 Likely; the pass of a
+// Sure or a Likely, else 0. So mode, kind and outcome stay numbers here.
+#[derive(Clone, Copy, Debug, PartialEq)]
 pub struct Fields {
     pub mode: u8,
     pub kind: u8,
@@ -36,37 +40,13 @@ pub struct Fields {
     pub segment: u16,
 }
 
-// The slip is written, or the refusal's number.
-#[derive(Clone, Copy)]
-pub enum Written {
-    Done,
-    Refused(u8),
-}
-
-// The slip, or the refusal's number.
-#[derive(Clone, Copy)]
-pub enum SlipRead {
-    Good(Slip),
-    Refused(u8),
-}
-
-// Its numbers, or the refusal's number.
-#[derive(Clone, Copy)]
-pub enum FieldsRead {
-    Good(Fields),
-    Refused(u8),
-}
-
 // ---- which values a slip may hold
 
 // A header's word has no bit above its 48 or 64.
 fn word_fits(kind: u8, word: u64) -> bool
     ensures { result ≡ ltb word (2 ^ header_bits kind) }
 {
-    if kind == 1 {
-        return true;
-    }
-    word < 0x1_0000_0000_0000
+    kind == 1 || word < 0x1_0000_0000_0000
 }
 
 // Sure has its pass, 1 to 3, Likely 2 or 3, Kept and Open have 0, and nothing else is an outcome.
@@ -74,22 +54,12 @@ fn word_fits(kind: u8, word: u64) -> bool
 fn pass_goes(outcome: u8, pass: u8) -> bool
     ensures { result ≡ pass_goes outcome pass }
 {
-    if outcome == 0 {
-        if pass < 1 {
-            return false;
-        }
-        return pass < 4;
+    match outcome {
+        0 => 1 <= pass && pass <= 3,
+        3 => 2 <= pass && pass <= 3,
+        1 | 2 => pass == 0,
+        _ => false,
     }
-    if outcome == 3 {
-        if pass < 2 {
-            return false;
-        }
-        return pass < 4;
-    }
-    if outcome > 2 {
-        return false;
-    }
-    pass == 0
 }
 
 // A score is finite: then it less itself is 0, and an infinity or a NaN less itself is a NaN. A start sample and a segment number
@@ -103,16 +73,10 @@ fn others_are_lawful(score: f32, start: u64, segment: u16) -> bool
 fn is_lawful(f: Fields) -> bool
     ensures { result ≡ lawful f }
 {
-    if !frame::is_named(f.mode, f.kind) {
-        return false;
-    }
-    if !word_fits(f.kind, f.word) {
-        return false;
-    }
-    if !pass_goes(f.outcome, f.pass) {
-        return false;
-    }
-    others_are_lawful(f.score, f.start, f.segment)
+    frame::is_named(f.mode, f.kind)
+        && word_fits(f.kind, f.word)
+        && pass_goes(f.outcome, f.pass)
+        && others_are_lawful(f.score, f.start, f.segment)
 }
 
 // ---- the bytes
@@ -133,9 +97,9 @@ fn outcome_value(outcome: u8, pass: u8, score: f32) -> u64
     requires { finite score ≡ true }
     ensures { big 6 result ≡ outcome_value outcome pass score }
 {
-    0x100_0000_0000 * (outcome as u64)
-        + 0x1_0000_0000 * (pass as u64)
-        + (f32::to_bits(score) as u64)
+    0x100_0000_0000 * u64::from(outcome)
+        + 0x1_0000_0000 * u64::from(pass)
+        + u64::from(score.to_bits())
 }
 
 // The first three fields: mode, kind and word.
@@ -144,8 +108,8 @@ fn put_first(out: &mut [u8], mode: u8, kind: u8, word: u64)
     ensures size { length out.new ≡ 44 }
     ensures bytes { take 19 out.new ≡ field 1 (big 1 mode) ++ field 2 (big 1 kind) ++ field 3 (big 8 word) }
 {
-    put_field(out, 0, 1, 1, mode as u64);
-    put_field(out, 4, 2, 1, kind as u64);
+    put_field(out, 0, 1, 1, u64::from(mode));
+    put_field(out, 4, 2, 1, u64::from(kind));
     put_field(out, 8, 3, 8, word);
 }
 
@@ -156,7 +120,7 @@ fn put_last(out: &mut [u8], outcome: u64, start: u64, segment: u16)
 {
     put_field(out, 19, 4, 6, outcome);
     put_field(out, 28, 5, 8, start);
-    put_field(out, 39, 6, 2, segment as u64);
+    put_field(out, 39, 6, 2, u64::from(segment));
 }
 
 // The six fields, tags rising.
@@ -191,18 +155,18 @@ pub fn take_fields(bytes: &[u8]) -> Fields
 // ---- by numbers
 
 // Inside: the writer, of numbers.
-pub fn write_fields(f: Fields, out: &mut [u8]) -> Written
-    ensures answer { written_is result ≡ writing f (length out.old) }
+pub fn write_fields(f: Fields, out: &mut [u8]) -> Result<(), Refusal>
+    ensures answer { meaning result ≡ writing f (length out.old) }
     ensures lent { out.new ≡ written f out.old }
 {
     if out.len() != 44 {
-        return Written::Refused(4);
+        return Err(Refusal::Length);
     }
     if !is_lawful(f) {
-        return Written::Refused(13);
+        return Err(Refusal::Slip);
     }
     put_fields(f, out);
-    Written::Done
+    Ok(())
 }
 
 // Whether the fields are written as these bytes and no others.
@@ -212,24 +176,22 @@ fn is_spelt(f: Fields, bytes: &[u8]) -> bool
 {
     let mut again = [0u8; 44];
     put_fields(f, &mut again);
-    check::same(&again, bytes)
+    again.as_slice() == bytes
 }
 
 // Inside: the reader, to numbers. Any string that is no lawful slip's spelling is refused, and by 13 alone.
-pub fn read_fields(bytes: &[u8]) -> FieldsRead
-    ensures answer { fields_is result ≡ reading bytes.now }
+pub fn read_fields(bytes: &[u8]) -> Result<Fields, Refusal>
+    ensures answer { meaning result ≡ reading bytes.now }
 {
     if bytes.len() != 44 {
-        return FieldsRead::Refused(13);
+        return Err(Refusal::Slip);
     }
     let f = take_fields(bytes);
-    if !is_lawful(f) {
-        return FieldsRead::Refused(13);
+    if is_lawful(f) && is_spelt(f, bytes) {
+        Ok(f)
+    } else {
+        Err(Refusal::Slip)
     }
-    if !is_spelt(f, bytes) {
-        return FieldsRead::Refused(13);
-    }
-    FieldsRead::Good(f)
 }
 
 // ---- the entries
@@ -266,8 +228,8 @@ fn slip_of(f: Fields) -> Slip
 }
 
 // Public entry: writes a slip (document 02, #103).
-pub fn write_slip(slip: Slip, out: &mut [u8]) -> Written
-    ensures answer { written_is result ≡ writing (fields_of slip) (length out.old) }
+pub fn write_slip(slip: Slip, out: &mut [u8]) -> Result<(), Refusal>
+    ensures answer { meaning result ≡ writing (fields_of slip) (length out.old) }
     ensures lent { out.new ≡ written (fields_of slip) out.old }
 {
     write_fields(fields_of(slip), out)
@@ -275,12 +237,9 @@ pub fn write_slip(slip: Slip, out: &mut [u8]) -> Written
 
 // Public entry: reads a slip (document 02, #103). `single`: a string is read exactly where it is a lawful slip's spelling, and
 // as that slip; every other is refused with 13.
-pub fn read_slip(bytes: &[u8]) -> SlipRead
-    ensures answer { slip_is result ≡ reading bytes.now }
-    ensures single { Reads bytes.now (slip_is result) }
+pub fn read_slip(bytes: &[u8]) -> Result<Slip, Refusal>
+    ensures answer { meaning_by fields_of result ≡ reading bytes.now }
+    ensures single { Reads bytes.now (meaning_by fields_of result) }
 {
-    match read_fields(bytes) {
-        FieldsRead::Good(f) => SlipRead::Good(slip_of(f)),
-        FieldsRead::Refused(k) => SlipRead::Refused(k),
-    }
+    Ok(slip_of(read_fields(bytes)?))
 }

@@ -7,6 +7,8 @@ ghost use Rattle.util.specs.Refusal.{number, place, itself};
 ghost use Rattle.slip.specs.Slips.{writing, written, reading};
 ghost use Rattle.slip_face.specs.Face.{fields, Told};
 
+use util::refusal::number_told;
+
 // Inside: the writer as C calls it.
 pub fn write(
     mode: u8,
@@ -32,10 +34,7 @@ pub fn write(
         start,
         segment,
     };
-    match slip::write_fields(f, slip) {
-        slip::Written::Done => 0,
-        slip::Written::Refused(k) => k as u32,
-    }
+    number_told(slip::write_fields(f, slip))
 }
 
 // Inside: the reader as C calls it. The eight places are written only where 0 is returned.
@@ -59,7 +58,7 @@ pub fn read(
         pass.new score.new start.new segment.new) }
 {
     match slip::read_fields(slip) {
-        slip::FieldsRead::Good(f) => {
+        Ok(f) => {
             *mode = f.mode;
             *kind = f.kind;
             *word = f.word;
@@ -70,6 +69,6 @@ pub fn read(
             *segment = f.segment;
             0
         }
-        slip::FieldsRead::Refused(k) => k as u32,
+        Err(refusal) => u32::from(refusal.number()),
     }
 }

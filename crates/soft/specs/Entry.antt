@@ -2,14 +2,12 @@
 -- refusals, and what it leaves in each lent list.
 use Rattle.std.specs.Prelude.{ℕ, ◌*◌, Bool, not, ◌&&◌, List, [], ◌∷◌, eqb, ltb, length, replicate, Float}
 use Rattle.util.specs.Some.{some_of}
-use Rattle.util.specs.Refusal.{Cause, Outcome, refused, accepted, outcome, afterwards}
+use Rattle.util.specs.Refusal.{Cause, Outcome, outcome, afterwards}
 use Rattle.frame.specs.Format.{format_of, named, layout_named, listed}
 use Rattle.ieee.specs.Whole.{plus_zero}
 use Rattle.model.specs.Range.{some_out}
 use Rattle.interleave.specs.Interleave.{symbols_of}
 use Rattle.forms.specs.Burst.{received, value_of, metrics_out, soft_out}
-use Rattle.soft.specs.declared.Soft.{Soft}
-use Rattle.soft.specs.declared.Soft.TheVariants.{Done, Refused}
 
 -- what the entry is asked, the lent lists as they are at entry
 pub record Asked : Type 0 where
@@ -52,11 +50,6 @@ sizes n bits terms counts work metrics soft =
 
 abbrev pub sized : Asked → Bool
 sized a = sizes (symbols_of a.bits) a.bits (length a.terms) (length a.counts) (length a.work) (length a.metrics) (length a.soft)
-
--- the answer's cases in document 01's words
-abbrev pub meaning : Soft → Outcome Unit
-meaning Done = accepted tt
-meaning (Refused k) = refused k
 
 abbrev pub causes : Asked → List Cause
 causes a =

@@ -4,10 +4,15 @@
 
 ghost use Rattle.std.specs.Prelude.{◌≡◌, true, false, ◌*◌, ◌-◌};
 ghost use Rattle.util.specs.Some.{some_of};
+ghost use Rattle.util.specs.Refusal.{meaning};
 ghost use Rattle.interleave.specs.Interleave.{symbols_of};
-ghost use Rattle.soft.specs.Entry.{asked, count_out, sizes, meaning, soft_answer, metrics_after, soft_after, work_after};
+ghost use Rattle.soft.specs.Entry.{asked, count_out, sizes, soft_answer, metrics_after, soft_after, work_after};
+
+use forms::Burst;
+use util::refusal::Refusal;
 
 // Whether a blanked count is above 255·window.
+#[tactic(auto, unfolding(crate::specs::Entry::count_out))]
 fn count_out(window: u32, count: u32) -> bool
     ensures { result ≡ count_out window count }
 {
@@ -18,12 +23,7 @@ fn count_out(window: u32, count: u32) -> bool
 fn some_count_out(window: u32, blanked: &[u32]) -> bool
     ensures { result ≡ some_of (count_out window) blanked.now }
 {
-    for i in 0..blanked.len() {
-        if count_out(window, blanked[i]) {
-            return true;
-        }
-    }
-    false
+    blanked.iter().any(|count| count_out(window, *count))
 }
 
 // Whether every list has its length.
@@ -32,26 +32,7 @@ fn sized(bits: u32, terms: usize, blanked: usize, work: usize, metrics: usize, s
     ensures { result ≡ sizes (symbols_of bits) bits terms blanked work metrics soft }
 {
     let n = interleave::symbols_of(bits) as usize;
-    if terms != 260 * n {
-        return false;
-    }
-    if blanked != n {
-        return false;
-    }
-    if work != 32 * n {
-        return false;
-    }
-    if metrics != 32 * n {
-        return false;
-    }
-    soft == bits as usize
-}
-
-// Done, or the refusal's number.
-#[derive(Clone, Copy)]
-pub enum Soft {
-    Done,
-    Refused(u8),
+    terms == 260 * n && blanked == n && work == 32 * n && metrics == 32 * n && soft == bits as usize
 }
 
 // Public entry: metrics and soft bits of a burst (document 01, 'Metrics and soft bits'; document 02, #102).
@@ -67,7 +48,7 @@ pub fn soft_values(
     work: &mut [f32],
     metrics: &mut [f32],
     soft: &mut [f32],
-) -> Soft
+) -> Result<(), Refusal>
     ensures answer { meaning result ≡ soft_answer (asked mode kind layout symbols window bits terms.now
         blanked.now work.old metrics.old soft.old) }
     ensures area { work.new ≡ work_after (asked mode kind layout symbols window bits terms.now
@@ -77,17 +58,15 @@ pub fn soft_values(
     ensures bits { soft.new ≡ soft_after (asked mode kind layout symbols window bits terms.now
         blanked.now work.old metrics.old soft.old) }
 {
-    if !frame::is_named(mode, kind) {
-        return Soft::Refused(1);
-    }
+    frame::format::named(mode, kind)?;
     if !frame::is_layout(layout) {
-        return Soft::Refused(12);
+        return Err(Refusal::Layout);
     }
     if bits > 10240 {
-        return Soft::Refused(2);
+        return Err(Refusal::TooMany);
     }
     if !frame::has_window(mode, window) {
-        return Soft::Refused(3);
+        return Err(Refusal::Window);
     }
     if !sized(
         bits,
@@ -97,16 +76,22 @@ pub fn soft_values(
         metrics.len(),
         soft.len(),
     ) {
-        return Soft::Refused(4);
+        return Err(Refusal::Length);
     }
     if model::some_out(terms) {
-        return Soft::Refused(6);
+        return Err(Refusal::Terms);
     }
     if some_count_out(window, blanked) {
-        return Soft::Refused(7);
+        return Err(Refusal::Blanked);
     }
-    forms::make(
-        mode, kind, layout, symbols, window, terms, blanked, work, metrics, soft,
-    );
-    Soft::Done
+    let burst = Burst {
+        mode,
+        kind,
+        layout,
+        window,
+        terms,
+        blanked,
+    };
+    forms::make(&burst, symbols, work, metrics, soft);
+    Ok(())
 }

@@ -6,6 +6,8 @@ ghost use Rattle.std.specs.Prelude.{not, eqb};
 ghost use Rattle.soft.specs.Entry.{asked};
 ghost use Rattle.soft_face.specs.Face.{SoftFace};
 
+use util::refusal::number_told;
+
 // Inside: the entry as C calls it.
 pub fn values(
     mode: u8,
@@ -23,7 +25,7 @@ pub fn values(
     ensures face { SoftFace (asked mode kind layout (not (eqb symbols 0)) window bits terms.now blanked.now
         work.old metrics.old soft.old) result work.new metrics.new soft.new }
 {
-    match soft::soft_values(
+    number_told(soft::soft_values(
         mode,
         kind,
         layout,
@@ -35,8 +37,5 @@ pub fn values(
         work,
         metrics,
         soft,
-    ) {
-        soft::Soft::Done => 0,
-        soft::Soft::Refused(k) => k as u32,
-    }
+    ))
 }

@@ -19,16 +19,6 @@ fn row(mode: u8, kind: u8, terms: &[f32], j: u64) -> [f32; 32]
     model::metrics(bins, hop, terms, slot as usize)
 }
 
-// Lays the metrics of step j into the list of all steps.
-fn lay(row: &[f32; 32], list: &mut [f32], j: usize)
-    requires { (length list.old ≡ 2048) × (j < 64) }
-    ensures { Stored nan 32 (32 * j) (λ v. get_or row.now v nan) list.old list.new }
-{
-    for v in 0..32usize {
-        list[32 * j + v] = row[v];
-    }
-}
-
 // Inside: the metrics of all steps, in a list.
 pub fn rows(mode: u8, kind: u8, terms: &[f32], list: &mut [f32])
     requires { (length terms.now ≡ header_bits kind * 260) × (length list.old ≡ 2048) }
@@ -38,6 +28,6 @@ pub fn rows(mode: u8, kind: u8, terms: &[f32], list: &mut [f32])
     let n = frame::header_symbols(kind) as usize;
     for j in 0..n {
         let metrics = row(mode, kind, terms, j as u64);
-        lay(&metrics, list, j);
+        list[32 * j..32 * j + 32].copy_from_slice(&metrics);
     }
 }

@@ -1,4 +1,5 @@
 -- Laws of this crate's definitions, for its own proofs and its callers'.
+pub mod Folded
 pub mod Same
 pub mod Sums
 pub mod Erasure

@@ -5,7 +5,7 @@
 ghost use Rattle.std.specs.Prelude.{◌≡◌, true, ◌+◌, ◌*◌, ◌≤◌, ◌<◌, length, get_or};
 ghost use Rattle.std.specs.Float.{nan};
 ghost use Rattle.util.specs.Table.{Stored};
-ghost use Rattle.ieee.specs.Within.{larger, clamp};
+ghost use Rattle.ieee.specs.Within.{clamp};
 ghost use Rattle.lse.specs.Lse.{float32, negative};
 ghost use Rattle.symbol.specs.Symbol.{erased_of, greatest_of, metric_out, bit_of, soft_bit};
 ghost use Rattle.symbol.specs.Sums.{Summed, soft_from};
@@ -17,22 +17,13 @@ pub fn erased(layout: u8, window: u32, count: u32) -> bool
     2 * (count as u64) > (6 * (layout as u64) + 1) * (window as u64)
 }
 
-// The larger of two.
-fn larger(x: f32, y: f32) -> f32
-    ensures { result ≡ larger x y }
-{
-    if x < y { y } else { x }
-}
-
 // The greatest of 32.
 fn greatest(values: &[f32; 32]) -> f32
     ensures { result ≡ greatest_of (λ v. get_or values.now v nan) }
 {
-    let mut most = values[0];
-    for v in 0..32usize {
-        most = larger(most, values[v]);
-    }
-    most
+    values
+        .iter()
+        .fold(values[0], |most, x| ieee::larger(most, *x))
 }
 
 // Inside: stores a symbol's 32 metrics out as row i.
@@ -43,7 +34,7 @@ pub fn put_metrics(values: &[f32; 32], out: &mut [f32], i: usize)
     let most = greatest(values);
     let base = 32 * i;
     for v in 0..32usize {
-        out[base + v] = larger(values[v] - most, -40.0);
+        out[base + v] = ieee::larger(values[v] - most, -40.0);
     }
 }
 

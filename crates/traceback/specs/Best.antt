@@ -1,11 +1,10 @@
 -- The best candidate as the code holds it, in the words of crate trellis.
 use Rattle.std.proofs.Math.Option.{Option, none, some}
-use Rattle.std.specs.Prelude.{Float}
+use Rattle.std.specs.Prelude.{Float, Option as Held, None, Some}
 use Rattle.trellis.specs.Search as Search
 use Rattle.traceback.specs.declared.Best.{Best}
-use Rattle.traceback.specs.declared.Best.TheVariants.{Nothing, Word}
 
 -- the best candidate so far
-abbrev pub best_is : Best → Option (Search.Candidate Float)
-best_is Nothing = none
-best_is (Word w g) = some (record { word = w; gain = g })
+abbrev pub best_is : Held Best → Option (Search.Candidate Float)
+best_is None = none
+best_is (Some b) = some (record { word = b.word; gain = b.gain })

@@ -11,7 +11,7 @@ ghost use Rattle.traceback.specs.Scan.{considered, scanned};
 ghost use Rattle.traceback.specs.Best.{best_is};
 
 // What a traceback gives: its word, and the state that it reaches.
-#[derive(Clone, Copy)]
+#[derive(Clone, Copy, Debug, PartialEq, Eq)]
 pub struct Traced {
     pub word: u64,
     pub start: usize,
@@ -25,9 +25,7 @@ pub fn trace(decisions: &[u64], steps: usize, end: usize) -> Traced
 {
     let mut word = 0u64;
     let mut s = end;
-    let mut j = steps;
-    while 0 < j {
-        j -= 1;
+    for j in (0..steps).rev() {
         word = word * 2 + ((s % 2) as u64);
         if (decisions[j * 256 + s / 64] >> (s % 64)) % 2 == 1 {
             s = (s + 16384) / 2;
@@ -39,24 +37,27 @@ pub fn trace(decisions: &[u64], steps: usize, end: usize) -> Traced
 }
 
 // The best candidate of the passes so far, with its word: a later pass overwrites the decisions.
-#[derive(Clone, Copy)]
-pub enum Best {
-    Nothing,
-    Word(u64, f32),
+#[derive(Clone, Copy, Debug, PartialEq)]
+pub struct Best {
+    pub word: u64,
+    pub gain: f32,
 }
 
-// A later candidate needs a strictly greater gain.
-fn beats(best: Best, gain: f32) -> bool
+// Inside: a later candidate needs a strictly greater gain.
+pub fn beats(best: Option<Best>, gain: f32) -> bool
     ensures { result ≡ Search.beats single (best_is best) gain }
 {
-    match best {
-        Best::Nothing => true,
-        Best::Word(_, g) => gain > g,
-    }
+    best.is_none_or(|b| gain > b.gain)
 }
 
 // Takes state s for the best candidate if its gain is strictly greater and its own traceback closes.
-fn consider(decisions: &[u64], steps: usize, best: Best, gain: f32, s: usize) -> Best
+fn consider(
+    decisions: &[u64],
+    steps: usize,
+    best: Option<Best>,
+    gain: f32,
+    s: usize,
+) -> Option<Best>
     requires { (s < 16384) × (steps ≤ 64) × (length decisions.now ≡ steps * 256) }
     ensures { best_is result ≡ considered (packed decisions.now) steps (best_is best) gain s }
 {
@@ -65,22 +66,26 @@ fn consider(decisions: &[u64], steps: usize, best: Best, gain: f32, s: usize) ->
     }
     let t = trace(decisions, steps, s);
     if t.start == s {
-        return Best::Word(t.word, gain);
+        return Some(Best { word: t.word, gain });
     }
     best
 }
 
 // Inside: the candidates of a pass, in state order, after the best of earlier passes.
-pub fn scan(decisions: &[u64], steps: usize, scores: &[f32], start: &[f32], first: Best) -> Best
+pub fn scan(
+    decisions: &[u64],
+    steps: usize,
+    scores: &[f32],
+    start: &[f32],
+    first: Option<Best>,
+) -> Option<Best>
     requires { (length scores.now ≡ 16384) × (length start.now ≡ 16384) × (steps ≤ 64) × (length decisions.now ≡ steps * 256) }
     ensures { best_is result ≡ scanned (packed decisions.now) steps (table scores.now)
         (table start.now) (best_is first) 16384 }
 {
     let mut best = first;
-    let mut s = 0usize;
-    while s < 16384 {
+    for s in 0..16384 {
         best = consider(decisions, steps, best, scores[s] - start[s], s);
-        s += 1;
     }
     best
 }

@@ -3,7 +3,7 @@ use Rattle.std.specs.Prelude.{ℕ, ◌-◌, ◌*◌, ◌/◌, ◌%◌, Bool, tru
 use Rattle.std.specs.Float.Ieee.{le}
 use Rattle.ieee.specs.Whole.{plus_zero, is_zero}
 use Rattle.util.specs.Choose.{choose}
-use Rattle.util.specs.Refusal.{Cause, Outcome, refused, accepted, outcome}
+use Rattle.util.specs.Refusal.{Cause, Outcome, outcome}
 use Rattle.frame.specs.Format.{format_of}
 use Rattle.util.specs.Every.{every}
 use Rattle.blocks.specs.Doubles.{as_f64, within}
@@ -13,8 +13,6 @@ use Rattle.fit.specs.Fit.{limit_of, good_blocks}
 use Rattle.tracker.specs.declared.Tracker.{Tracker}
 use Rattle.tracker.specs.declared.Sample.{Sample}
 use Rattle.tracker.specs.declared.Sample.TheVariants.{Heard, Missed}
-use Rattle.tracker.specs.declared.Tracked.{Tracked}
-use Rattle.tracker.specs.declared.Tracked.TheVariants.{Done, Refused}
 
 -- nothing heard yet
 abbrev pub fresh_of : Tracker
@@ -75,11 +73,6 @@ energy x = le plus_zero x && le x (as_f64 1000000000)
 abbrev pub in_range : Sample → Bool
 in_range (Heard early late noise) = energy early && (energy late && energy noise)
 in_range Missed = true
-
--- the answer's cases in document 01's words
-abbrev pub meaning : Tracked → Outcome Unit
-meaning Done = accepted tt
-meaning (Refused k) = refused k
 
 abbrev pub causes : ℕ → Tracker → List ℤ → List Block → Sample → List Cause
 causes mode t shifts blocks s =

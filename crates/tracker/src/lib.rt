@@ -5,27 +5,23 @@
 ghost use Rattle.std.specs.Prelude.{◌≡◌, ◌-◌, ◌*◌, ◌≤◌, length, get_or, leb, eqb, pos, not, ◌&&◌, ◌||◌};
 ghost use Rattle.util.specs.Every.{every};
 ghost use Rattle.tracker.specs.Rule.{fresh_of, block_length, waiting, in_whole_blocks, count_kept, drift_kept, sums_kept, shift_kept};
-ghost use Rattle.tracker.specs.Rule.{energy, in_range, meaning};
+ghost use Rattle.tracker.specs.Rule.{energy, in_range};
+ghost use Rattle.util.specs.Refusal.{meaning};
 ghost use Rattle.tracker.specs.Inside.{rule_with, answer_in, Readable};
 
 use blocks::Gathered;
+use util::refusal::Refusal;
 
-// One symbol: early energy, late energy and noise, or nothing.
-#[derive(Clone, Copy)]
+// One symbol: early energy, late energy and noise, or nothing. An enum and no Option: these are document 01's own words, which the
+// definitions (specs/Rule, crate call's specs/Call) and the theorems over series (crate drift, specs/Series) cite.
+#[derive(Clone, Copy, Debug, PartialEq)]
 pub enum Sample {
     Heard(f64, f64, f64),
     Missed,
 }
 
-// Done, or the refusal's number.
-#[derive(Clone, Copy)]
-pub enum Tracked {
-    Done,
-    Refused(u8),
-}
-
 // What is kept of a burst between its symbols; its two lists lie beside it.
-#[derive(Clone, Copy)]
+#[derive(Clone, Copy, Debug, PartialEq)]
 pub struct Tracker {
     pub n: usize,
     pub shift: i32,
@@ -51,32 +47,25 @@ impl Tracker {
     }
 }
 
-// Inside: symbols a block.
+// Inside: symbols a block. A mode is its number here and below: `readable` and `waits` are asked before it is known to be named.
 pub fn block_length(mode: u8) -> usize
     ensures { result ≡ block_length mode }
 {
     if mode == 0 { 32 } else { 64 }
 }
 
-// The symbols judged in n calls.
-fn judged(n: usize) -> usize
-    ensures { result ≡ n - 2 }
-{
-    if n < 2 { 0 } else { n - 2 }
-}
-
-// Inside: of these the symbols that wait for their block's end.
+// Inside: of the symbols judged in n calls those that wait for their block's end.
 pub fn waits(mode: u8, n: usize) -> usize
     ensures { result ≡ waiting mode n }
 {
-    judged(n) % block_length(mode)
+    n.saturating_sub(2) % block_length(mode)
 }
 
 // And the symbols in whole blocks, document 01's m.
 fn in_blocks(mode: u8, n: usize) -> usize
     ensures { result ≡ in_whole_blocks mode n }
 {
-    judged(n) - waits(mode, n)
+    n.saturating_sub(2) - waits(mode, n)
 }
 
 // Whether there are no more blocks than n calls make.
@@ -90,62 +79,48 @@ fn count_kept(mode: u8, t: Tracker) -> bool
 pub fn readable(mode: u8, t: Tracker, room: usize) -> usize
     ensures { Readable mode t room result }
 {
-    if room != 64 {
-        return 0;
+    if room == 64 && t.n <= 2047 && count_kept(mode, t) {
+        t.blocks
+    } else {
+        0
     }
-    if t.n > 2047 {
-        return 0;
-    }
-    if count_kept(mode, t) { t.blocks } else { 0 }
 }
 
 // Whether a shift lies within ±2,048.
 fn shift_kept(z: i32) -> bool
     ensures { result ≡ shift_kept z }
 {
-    if -2048 <= z { z <= 2048 } else { false }
+    -2048 <= z && z <= 2048
 }
 
-// Whether the first n stored shifts lie within ±2,048. All are looked at, with no way out between, so that several go at once.
+// Whether the first n stored shifts lie within ±2,048. All are looked at, with no way out between, so that several
+// go at once: `all` would stop at the first that does not (docs/DECISIONS.md, 33).
 fn stored_kept(shifts: &[i32], n: usize) -> bool
     requires { n ≤ length shifts.now }
     ensures { result ≡ every n (λ j. shift_kept (get_or shifts.now j (pos 0))) }
 {
-    let mut kept = true;
-    for j in 0..n {
-        let z = shifts[j];
-        kept = util::both(kept, shift_kept(z));
-    }
-    kept
+    shifts[..n]
+        .iter()
+        .fold(true, |kept, z| util::both(kept, shift_kept(*z)))
 }
 
 // Whether the sums keep the rule. 1 / -0.0 is minus infinity, so the last test finds a negative zero.
 fn sums_kept(t: Tracker) -> bool
     ensures { result ≡ sums_kept t }
 {
-    if !blocks::within(1e12, t.tnum) {
-        return false;
-    }
-    if !blocks::within(1e12, t.tden) {
-        return false;
-    }
-    if !(0.0 <= t.tden) {
-        return false;
-    }
-    !(1.0 / t.tden < 0.0)
+    blocks::within(1e12, t.tnum)
+        && blocks::within(1e12, t.tden)
+        && 0.0 <= t.tden
+        && !(1.0 / t.tden < 0.0)
 }
 
 // Whether drift, sums and present shift keep the rule.
 fn numbers_kept(mode: u8, t: Tracker) -> bool
     ensures { result ≡ drift_kept mode t && (sums_kept t && shift_kept t.shift) }
 {
-    if !blocks::within(0.0003 * (frame::symbol(mode) as f64), t.drift) {
-        return false;
-    }
-    if !sums_kept(t) {
-        return false;
-    }
-    shift_kept(t.shift)
+    blocks::within(0.0003 * f64::from(frame::symbol(mode)), t.drift)
+        && sums_kept(t)
+        && shift_kept(t.shift)
 }
 
 // Whether a further call is left and the rule is kept, where `top` is the greatest twice-place.
@@ -153,26 +128,18 @@ fn rule_kept(mode: u8, t: Tracker, shifts: &[i32], top: u32) -> bool
     requires { length shifts.now ≡ 2048 }
     ensures { result ≡ not (eqb t.n 2048 || not (rule_with mode t shifts.now (leb top (2 * in_whole_blocks mode t.n)))) }
 {
-    if t.n > 2047 {
-        return false;
-    }
-    if !count_kept(mode, t) {
-        return false;
-    }
-    if (top as usize) > 2 * in_blocks(mode, t.n) {
-        return false;
-    }
-    if !numbers_kept(mode, t) {
-        return false;
-    }
-    stored_kept(shifts, t.n)
+    t.n <= 2047
+        && count_kept(mode, t)
+        && (top as usize) <= 2 * in_blocks(mode, t.n)
+        && numbers_kept(mode, t)
+        && stored_kept(shifts, t.n)
 }
 
 // Whether an energy or a noise is in range.
 fn is_energy(x: f64) -> bool
     ensures { result ≡ energy x }
 {
-    if 0.0 <= x { x <= 1e9 } else { false }
+    0.0 <= x && x <= 1e9
 }
 
 // Whether a sample is in range; of Missed nothing is looked at.
@@ -181,39 +148,37 @@ fn in_range(s: Sample) -> bool
 {
     match s {
         Sample::Heard(early, late, noise) => {
-            if !is_energy(early) {
-                return false;
-            }
-            if !is_energy(late) {
-                return false;
-            }
-            is_energy(noise)
+            is_energy(early) && is_energy(late) && is_energy(noise)
         }
         Sample::Missed => true,
     }
 }
 
 // Inside: the answer of a call, by what is gathered of a list of `room` blocks.
-pub fn tested(mode: u8, t: Tracker, shifts: &[i32], room: usize, g: Gathered, s: Sample) -> Tracked
-    ensures { meaning result ≡ answer_in mode t shifts.now room g s }
+pub fn tested(
+    mode: u8,
+    t: Tracker,
+    shifts: &[i32],
+    room: usize,
+    g: &Gathered,
+    s: Sample,
+) -> Result<(), Refusal>
+    ensures { meaning result ≡ answer_in mode t shifts.now room g.now s }
 {
     if mode > 1 {
-        return Tracked::Refused(1);
+        return Err(Refusal::Unnamed);
     }
-    if shifts.len() != 2048 {
-        return Tracked::Refused(4);
-    }
-    if room != 64 {
-        return Tracked::Refused(4);
+    if shifts.len() != 2048 || room != 64 {
+        return Err(Refusal::Length);
     }
     if !in_range(s) {
-        return Tracked::Refused(8);
+        return Err(Refusal::Sample);
     }
     if !rule_kept(mode, t, shifts, g.top) {
-        return Tracked::Refused(9);
+        return Err(Refusal::Tracker);
     }
     if !g.good {
-        return Tracked::Refused(10);
+        return Err(Refusal::Blocks);
     }
-    Tracked::Done
+    Ok(())
 }

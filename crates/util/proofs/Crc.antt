@@ -97,7 +97,7 @@ step_small s b = by (eqb (bit_xor (s / 2 ^ 15) b) 1)
 
 -- of bits, the same CRC comes from the same start
 pub crc-back : (s t : ℕ) (bits : List ℕ) → s < 2 ^ 16 → t < 2 ^ 16 → some_of (ltb 1) bits ≡ false → crc_of s bits ≡ crc_of t bits → s ≡ t
-unfolding crc_of some_of
+unfolding crc_of
 crc-back s t [] hs ht digits e = e
 crc-back s t (b ∷ bs) hs ht digits e =
     let both = neither (ltb 1 b) (some_of (ltb 1) bs) digits in

@@ -17,7 +17,6 @@ Apart l (c ∷ cs) = (l ≡ c.number → ⊥) × Apart l cs
 
 -- causes in an order have only its numbers
 apart : (l : ℕ) (order : List ℕ) (cs : List Cause) → some_of (eqb l) order ≡ false → in_order order cs ≡ true → Apart l cs
-unfolding some_of
 apart l [] [] out e = tt
 apart l [] (c ∷ cs) out e = absurd (true≢false (sym e))
 apart l (o ∷ os) [] out e = tt
@@ -113,5 +112,5 @@ first-lowest {A} j (c ∷ cs) a k e r =
 
 -- an entry whose causes stand in the order answers with the first that holds
 pub first : {A : Type 0} (cs : List Cause) (a : A) (k : ℕ) → in_order precedence cs ≡ true → outcome cs a ≡ refused k → First k cs
-unfolding distinct some_of
+unfolding distinct
 first cs a k e r = record { first = none_before precedence cs a k refl e r; lowest = λ rising. first-lowest 0 cs a k rising r }

@@ -1,6 +1,8 @@
 -- Document 01, 'When nothing is done': what a public entry answers.
-use Rattle.std.specs.Prelude.{◌≡◌, ℕ, suc, ◌≤◌, Bool, true, false, ◌&&◌, List, [], ◌∷◌, ◌==◌, nat_le}
+use Rattle.std.specs.Prelude.{◌≡◌, ℕ, suc, ◌≤◌, Bool, true, false, ◌&&◌, List, [], ◌∷◌, ◌==◌, nat_le, Result, Ok, Err}
 use Rattle.util.specs.Choose.{choose}
+use Rattle.util.specs.declared.refusal.Refusal.{Refusal}
+use Rattle.util.specs.declared.refusal.Refusal.TheVariants.{Unnamed, TooMany, Window, Length, NotBits, Terms, Blanked, Sample, Tracker, Blocks, NotSymbols, Layout, Slip, FullBoard, Noise, Labels}
 
 -- a line of the table: whether its cause is there, and its number
 pub record Cause : Type 0 where
@@ -11,6 +13,34 @@ pub record Cause : Type 0 where
 pub data Outcome (A : Type 0) : Type 0 where
   refused : ℕ → Outcome A
   accepted : A → Outcome A
+
+-- the number of each refusal
+abbrev pub number_of : Refusal → ℕ
+number_of Unnamed = 1
+number_of TooMany = 2
+number_of Window = 3
+number_of Length = 4
+number_of NotBits = 5
+number_of Terms = 6
+number_of Blanked = 7
+number_of Sample = 8
+number_of Tracker = 9
+number_of Blocks = 10
+number_of NotSymbols = 11
+number_of Layout = 12
+number_of Slip = 13
+number_of FullBoard = 14
+number_of Noise = 15
+number_of Labels = 16
+
+-- what an entry's result says, where a value of it stands for what `of` makes of it
+abbrev pub meaning_by : {A B : Type 0} → (A → B) → Result A Refusal → Outcome B
+meaning_by of (Ok a) = accepted (of a)
+meaning_by of (Err r) = refused (number_of r)
+
+abbrev pub meaning : {A : Type 0} → Result A Refusal → Outcome A
+meaning (Ok a) = accepted a
+meaning (Err r) = refused (number_of r)
 
 -- of the causes in the entry's order the first that holds; the result where none does
 abbrev pub outcome : {A : Type 0} → List Cause → A → Outcome A

@@ -1,6 +1,6 @@
--- Whether some entry of a list passes a test: what a refusal asks of a lent list.
-use Rattle.std.specs.Prelude.{Bool, false, ◌||◌, List, [], ◌∷◌}
+-- Whether some entry of a list passes a test, by std's word: what a refusal asks of a lent list.
+use Rattle.std.specs.Prelude.{Bool, List}
+use Rattle.std.specs.List.{list_any}
 
-unfoldable pub some_of : {A : Type 0} → (A → Bool) → List A → Bool
-some_of test [] = false
-some_of test (a ∷ rest) = test a || some_of test rest
+abbrev pub some_of : {A : Type 0} → (A → Bool) → List A → Bool
+some_of test list = list_any test list

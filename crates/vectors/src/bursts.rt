@@ -2,15 +2,11 @@
 // 140 + the same in the layout that the argument's highest byte has. The argument has a seed in its lowest 32 bits, then the
 // bit count in 16 bits and the window's number in 8. Terms and counts are worked out from the seed; the answer is a digest of
 // the bits of all metrics and soft bits, each mixed into what came before.
+use records::{digest, mixed};
+
 // A term from -12.5 to 12.5, by sixteenths.
 fn term(x: u64) -> f32 {
     (((x % 401) as u16) as f32 - 200.0) / 16.0
-}
-
-fn fill(seed: u64, terms: &mut [f32]) {
-    for i in 0..terms.len() {
-        terms[i] = term(probe::probe_mix64(seed ^ ((i as u64) << 32)));
-    }
 }
 
 // 0 to 6k+1 in layout k: so many windows blanked erase about half of the symbols.
@@ -18,29 +14,11 @@ fn times(layout: u8, x: u64) -> u32 {
     (x % (6 * (layout as u64) + 2)) as u32
 }
 
-fn count(seed: u64, layout: u8, window: u32, counts: &mut [u32]) {
-    for i in 0..counts.len() {
-        let n = times(layout, probe::probe_mix64(seed ^ ((i as u64) << 48)));
-        counts[i] = blanked(n, window);
-    }
-}
-
 fn blanked(times: u32, window: u32) -> u32 {
-    if times > 49 {
-        return 0;
-    }
-    if window > 224 {
+    if times > 49 || window > 224 {
         return 0;
     }
     times * window
-}
-
-fn digest(begun: u64, list: &[f32]) -> u64 {
-    let mut h = begun;
-    for i in 0..list.len() {
-        h = probe::probe_mix64(h ^ crate::read::bits(list[i]));
-    }
-    h
 }
 
 fn burst(
@@ -55,8 +33,10 @@ fn burst(
 ) -> u64 {
     let window = window_of(what / 6, (asked >> 48) % 256);
     let seed = asked % 0x1_0000_0000;
-    fill(seed, terms);
-    count(seed, layout, window, counts);
+    records::fill(terms, |i| term(mixed(seed, (i as u64) << 32)));
+    records::fill(counts, |i| {
+        blanked(times(layout, mixed(seed, (i as u64) << 48)), window)
+    });
     let bits = ((asked >> 32) % 65536) as u32;
     let k = ion::data::ion_soft_values(
         what / 6,

@@ -3,8 +3,6 @@
 
 ghost use Rattle.std.specs.Prelude.{◌+◌, ◌≤◌, length};
 
-const STDIN: i32 = 0;
-
 mod bursts;
 mod read;
 mod sending;
@@ -104,21 +102,6 @@ fn answer(what: u8, asked: u64) -> u64 {
     }
 }
 
-// How many of the records agree.
-fn agreeing(s: &[u8]) -> u64 {
-    let mut same: u64 = 0;
-    for i in 0..records::count(s) {
-        let record = records::nth(s, i);
-        if records::agrees(record, answer(record.what, record.asked)) {
-            same = std::num::wrapping_add_u64(same, 1);
-        }
-    }
-    same
-}
-
-fn main() {
-    let mut buffer = io::large_buffer();
-    let n = io::read_full(STDIN, &mut buffer);
-    let s = &buffer[..n];
-    records::tally(agreeing(s), records::count(s));
+fn main(rt: HostRuntime) {
+    records::replay(&mut rt.stdin(), rt.stdout(), answer);
 }

@@ -2,25 +2,19 @@
 // is a seed. The terms are small whole numbers worked out from the seed, with the values of a header raised by up to 7.
 ghost use Rattle.std.specs.Prelude.{◌≡◌, length};
 
+use records::{Bits, mixed};
+
 fn small(x: u64) -> f32 {
     ((x % 5) as u16) as f32 - 2.0
-}
-
-fn fill(seed: u64, terms: &mut [f32]) {
-    for i in 0..terms.len() {
-        terms[i] = small(probe::probe_mix64(seed ^ ((i as u64) << 8)));
-    }
 }
 
 fn raise_one(terms: &mut [f32], s: usize, bin: u64, strength: f32)
     ensures { length terms.new ≡ length terms.old }
 {
-    if s < 64 {
-        if bin < 48 {
-            let at = 260 * s + 104 + (bin as usize) + 2;
-            if at < terms.len() {
-                terms[at] = terms[at] + strength;
-            }
+    if s < 64 && bin < 48 {
+        let at = 260 * s + 104 + (bin as usize) + 2;
+        if at < terms.len() {
+            terms[at] += strength;
         }
     }
 }
@@ -28,25 +22,9 @@ fn raise_one(terms: &mut [f32], s: usize, bin: u64, strength: f32)
 // The sent value's term in row 2 of each symbol.
 fn raise(mode: u8, seed: u64, values: &[u8], terms: &mut [f32]) {
     let strength = ((seed % 8) as u16) as f32;
-    for s in 0..values.len() {
-        raise_one(
-            terms,
-            s,
-            probe::probe_bin(mode, s as u64, values[s]),
-            strength,
-        );
+    for (s, value) in values.iter().enumerate() {
+        raise_one(terms, s, probe::probe_bin(mode, s as u64, *value), strength);
     }
-}
-
-fn wide(x: u32) -> u64 {
-    x as u64
-}
-
-pub fn bits(score: f32) -> u64 {
-    if score == score {
-        return wide(f32::to_bits(score));
-    }
-    records::NONE
 }
 
 // A header as read: 0 or the refusal's number, and the five places.
@@ -119,9 +97,9 @@ fn part_of(part: u8, h: Answer) -> u64 {
     }
     match part {
         0 => h.word,
-        1 => (h.outcome as u64) + ((h.pass as u64) << 4),
-        2 => bits(h.score),
-        _ => bits(h.ceiling),
+        1 => u64::from(h.outcome) + (u64::from(h.pass) << 4),
+        2 => h.score.bits(),
+        _ => h.ceiling.bits(),
     }
 }
 
@@ -136,10 +114,6 @@ fn both_ways(mode: u8, kind: u8, part: u8, terms: &[f32], decisions: &mut [u64])
     if plain == with { plain } else { records::NONE }
 }
 
-fn mixed(h: u64, x: u64) -> u64 {
-    probe::probe_mix64(h ^ x)
-}
-
 // The refusal, or a digest of the five places.
 pub fn digest(seed: u64, h: Answer) -> u64 {
     if h.number != 0 {
@@ -147,9 +121,9 @@ pub fn digest(seed: u64, h: Answer) -> u64 {
     }
     let told = mixed(
         mixed(seed, h.word),
-        (h.outcome as u64) + ((h.pass as u64) << 4),
+        u64::from(h.outcome) + (u64::from(h.pass) << 4),
     );
-    mixed(mixed(told, bits(h.score)), bits(h.ceiling))
+    mixed(mixed(told, h.score.bits()), h.ceiling.bits())
 }
 
 // The terms of the header of the lent bits, in lists of its kind's lengths; whether there are any.
@@ -164,7 +138,7 @@ pub fn drawn(
     if ion::air::ion_header_values(mode, kind, bits, values) != 0 {
         return false;
     }
-    fill(seed, terms);
+    records::fill(terms, |i| small(mixed(seed, (i as u64) << 8)));
     raise(mode, seed, values, terms);
     true
 }

@@ -12,30 +12,10 @@ fn drawn(what: u8, x: u64) -> u8 {
 
 // Number i, the first one instead where it is given.
 fn nth(what: u8, seed: u64, first: u8, i: usize) -> u8 {
-    if i == 0 {
-        if first != 0 {
-            return first;
-        }
+    if i == 0 && first != 0 {
+        return first;
     }
-    drawn(what, probe::probe_mix64(seed ^ ((i as u64) << 32)))
-}
-
-fn fill(what: u8, seed: u64, first: u8, list: &mut [u8]) {
-    for i in 0..list.len() {
-        list[i] = nth(what, seed, first, i);
-    }
-}
-
-fn wide(x: u8) -> u64 {
-    x as u64
-}
-
-pub fn digest(begun: u64, list: &[u8]) -> u64 {
-    let mut h = begun;
-    for i in 0..list.len() {
-        h = probe::probe_mix64(h ^ wide(list[i]));
-    }
-    h
+    drawn(what, records::mixed(seed, (i as u64) << 32))
 }
 
 fn send(what: u8, list: &[u8], lent: &mut [u8]) -> u32 {
@@ -47,12 +27,13 @@ fn send(what: u8, list: &[u8], lent: &mut [u8]) -> u32 {
 
 fn sent(what: u8, asked: u64, list: &mut [u8], lent: &mut [u8]) -> u64 {
     let seed = asked % 0x1_0000_0000;
-    fill(what, seed, (asked >> 56) as u8, list);
+    let first = (asked >> 56) as u8;
+    records::fill(list, |i| nth(what, seed, first, i));
     let k = send(what, list, lent);
     if k != 0 {
         return records::refusal(k);
     }
-    digest(seed, lent)
+    records::digest(seed, lent)
 }
 
 // The places that n of them take: five a symbol for bits.

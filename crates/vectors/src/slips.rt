@@ -5,10 +5,11 @@
 // slip drawn is a Likely (document 02, #107).
 ghost use Rattle.std.specs.Prelude.{◌≡◌, length};
 
+use records::{Bits, digest};
 use slip::Fields;
 
 fn drawn(seed: u64, i: u64) -> u64 {
-    probe::probe_mix64(seed ^ ((i % 16) << 32))
+    records::mixed(seed, (i % 16) << 32)
 }
 
 // Any finite score.
@@ -98,7 +99,7 @@ fn written(seed: u64, f: Fields, bytes: &mut [u8]) -> u64 {
     if k != 0 {
         return records::refusal(k);
     }
-    crate::sending::digest(seed, bytes)
+    digest(seed, bytes)
 }
 
 fn write_record(asked: u64) -> u64 {
@@ -125,11 +126,8 @@ fn mixed(
     start: u64,
     segment: u16,
 ) -> u64 {
-    let h = crate::sending::digest(seed, &[mode, kind, outcome, pass]);
-    let h = probe::probe_mix64(h ^ word);
-    let h = probe::probe_mix64(h ^ crate::read::bits(score));
-    let h = probe::probe_mix64(h ^ start);
-    probe::probe_mix64(h ^ (segment as u64))
+    let h = digest(seed, &[mode, kind, outcome, pass]);
+    digest(h, &[word, score.bits(), start, u64::from(segment)])
 }
 
 fn read(seed: u64, string: &[u8]) -> u64 {
@@ -160,7 +158,7 @@ fn read(seed: u64, string: &[u8]) -> u64 {
 
 fn damage(string: &mut [u8], at: usize, with: u8) {
     if at < string.len() {
-        string[at] = string[at] ^ with;
+        string[at] ^= with;
     }
 }
 

@@ -10,14 +10,8 @@ fn otherwise(asked: u64) -> u64 {
 fn is_off(asked: u64, r: u64) -> bool {
     let p = (asked >> 32) % 32768;
     match otherwise(asked) {
-        0 => false,
-        3 => false,
-        7 => {
-            if p == 0 {
-                return false;
-            }
-            r / p % 2 == 1
-        }
+        0 | 3 => false,
+        7 => p != 0 && r / p % 2 == 1,
         _ => r == p,
     }
 }
@@ -31,23 +25,18 @@ fn off_by(asked: u64, r: u64) -> u16 {
 }
 
 fn turn(asked: u64, labels: &mut [u16]) {
-    for r in 0..labels.len() {
-        labels[r] = labels[r] ^ off_by(asked, r as u64);
+    for (r, label) in labels.iter_mut().enumerate() {
+        *label ^= off_by(asked, r as u64);
     }
 }
 
 fn is_out(asked: u64) -> bool {
-    match otherwise(asked) {
-        2 | 3 => true,
-        _ => false,
-    }
+    matches!(otherwise(asked), 2 | 3)
 }
 
 fn raise_first(asked: u64, terms: &mut [f32]) {
-    if is_out(asked) {
-        if 0 < terms.len() {
-            terms[0] = 10000000.0;
-        }
+    if is_out(asked) && !terms.is_empty() {
+        terms[0] = 10000000.0;
     }
 }
 

@@ -13,19 +13,12 @@ pub fn put(out: &mut [u8], at: usize, width: usize, value: u64)
     ensures size { length out.new ≡ length out.old }
     ensures bytes { take (at + width) out.new ≡ take at out.old ++ big width value }
 {
-    let mut i = width;
     let mut rest = value;
-    while i > 0 {
-        i -= 1;
+    // By places from the last on: `to_be_bytes` has eight bytes, and `width` may be more.
+    for i in (0..width).rev() {
         out[at + i] = (rest % 256) as u8;
-        rest = rest / 256;
+        rest /= 256;
     }
-}
-
-fn wide(x: u8) -> u64
-    ensures { result ≡ x }
-{
-    x as u64
 }
 
 // Inside: the number in up to eight bytes from a place on.
@@ -34,9 +27,9 @@ pub fn number_at(bytes: &[u8], at: usize, width: usize) -> u64
     ensures number { result ≡ number_at bytes.now at width }
     ensures most { result < 256 ^ width }
 {
-    let mut sum: u64 = 0;
-    for k in 0..width {
-        sum = 256 * sum + wide(bytes[at + k]);
+    let mut sum = 0;
+    for byte in &bytes[at..at + width] {
+        sum = 256 * sum + u64::from(*byte);
     }
     sum
 }

@@ -4,7 +4,7 @@ use Rattle.blocks.specs.Inside.{Gathers}
 use Rattle.blocks.proofs.gather.Given as goal
 
 abbrev pub invariant-loop-i : goal.invariant-loop-i
-invariant-loop-i l = (l.i ≤ l.k) × Gathers l.blocks l.i l.g
+invariant-loop-i g l = (l.i ≤ l.k) × Gathers (g.B.Blocks.listed l.blocks) l.i l.g
 
 abbrev pub decreases-loop-i : goal.decreases-loop-i
-decreases-loop-i l = l.k - l.i
+decreases-loop-i g l = l.k - l.i

@@ -3,7 +3,6 @@ use Prim.Native.Nat.{ℕ, ◌+◌, ◌-◌, ◌*◌, ◌≤◌, ◌<◌}
 use mathlib.Core.Bool.{Bool, true, false, ◌&&◌}
 use mathlib.Core.List.{List, []}
 use mathlib.Core.Path.{◌≡◌, sym, ap, ap₂, ◌∙◌}
-use native.Mathlib.Omega.{arith}
 use borrow.Author.Tests.{lt-ltb, le-ltb}
 use lib.Dec.{eqb, ltb}
 use lib.ListN.{get_or, take, drop}
@@ -30,11 +29,11 @@ pub returns-then-place-count : goal.returns-then-place-count
 returns-then-place-count c =
     let pre = c.requires in
     let a = c.args in
-    sym (at_count a.count a.place a.segment a.board.now pre.1.0 pre.1.1 c.if-place-count.true)
+    ap (λ (n : ℕ). eqb n a.segment) c.segment_of.ensures.number
+    ∙ sym (below-count a.count a.place a.segment a.board.now pre.1.0 pre.1.1 c.if-place-count.true)
 
-pub returns : goal.returns
-returns c =
+pub returns-else-place-count : goal.returns-else-place-count
+returns-else-place-count c =
     let pre = c.requires in
     let a = c.args in
-    ap (λ (n : ℕ). eqb n a.segment) c.segment_of.ensures.number
-    ∙ sym (below-count a.count a.place a.segment a.board.now pre.1.0 pre.1.1 (omega (arith, c.if-place-count.false)))
+    le-ltb a.place a.count c.if-place-count.false ∙ sym (at_count a.count a.place a.segment a.board.now pre.1.0 pre.1.1 c.if-place-count.false)

@@ -1,54 +1,59 @@
--- `board::is_rising` meets its contract. The invariant: the places still to read rise from the least segment on exactly where all do.
--- The measure is how many are left. Assumes nothing.
-use Prim.Native.Nat.{ℕ, suc, ◌+◌, ◌-◌, ◌*◌, ◌<◌}
-use mathlib.Core.Bool.{false, ◌&&◌}
-use mathlib.Core.List.{List, ◌∷◌}
-use mathlib.Core.Path.{◌≡◌, sym, ap, ◌∙◌}
-use native.Mathlib.Numerals.{add-one}
-use native.Mathlib.Omega.{arith}
-use lib.Dec.{leb}
-use lib.ListN.{take, drop}
-use Rattle.util.specs.Choose.{choose}
-use Rattle.slip.specs.Slips.{is_slip}
-use Rattle.board.specs.Places.{places, place_at, segment_of, rising}
-use Rattle.board.proofs.Rising.{past_first}
-use Rattle.board.proofs.Places.{part, next_place, no_place}
+-- `board::is_rising` meets its contract: each turn reads the first of the places that are left. Assumes nothing.
+use Rattle.std.proofs.Common.{rules, Option, arith, ◌*◌, ◌≡◌, ◌<◌, ℕ, List, length, take, ◌++◌, sym, ap, ◌∙◌}
+use Rattle.board.specs.Places.{places, rising}
+use Rattle.board.proofs.Places.{of-take}
+use Rattle.board.proofs.Cut.{cut, from_next, past_first}
+use lib.Seq.{length-take-le}
 use Rattle.board.proofs.is_rising.Goals as goal
 
--- place i passed, by the least segment that may come after it
-passed : (count i : ℕ) (b : List ℕ) (least n : ℕ) → i < count
-    → n ≡ choose (is_slip (take (44 * i + 44 - 44 * i) (drop (44 * i) b)) && leb least (segment_of (take (44 * i + 44 - 44 * i) (drop (44 * i) b))))
-    (suc (segment_of (take (44 * i + 44 - 44 * i) (drop (44 * i) b)))) 0
-    → (n ≡ 0 → rising least (drop i (places count b)) ≡ false)
-    × ((n ≡ 0 → ⊥) → rising n (drop (i + 1) (places count b)) ≡ rising least (drop i (places count b)))
-passed count i b least n l e =
-    let s = place_at b i in
-    let rest = drop (suc i) (places count b) in
-    let cut : drop i (places count b) ≡ s ∷ rest = next_place count i b l in
-    let past = past_first least s rest n
-    (e ∙ ap (λ (t : List ℕ). choose (is_slip t && leb least (segment_of t)) (suc (segment_of t)) 0) (part i b)) in (
-      (λ z. ap (rising least) cut ∙ past.0 z),
-      (λ z. ap (λ (k : ℕ). rising n (drop k (places count b))) (add-one i) ∙ past.1 z ∙ ap (rising least) (sym cut)),
+pub loop-place-init : goal.loop-place-init
+loop-place-init c =
+    let a = c.args in
+    let size : c.into_iter-place-iterator.result.size ≡ 44 = search rules in
+    let rest : c.into_iter-place-iterator.result.rest.now ≡ take (44 * a.count) a.board.now = search rules in (
+      omega (arith, size),
+      tt,
+      size,
+      (
+        a.count,
+        ap length rest ∙ length-take-le (44 * a.count) a.board.now c.requires,
+        ap (λ (b : List ℕ). rising 0 (places a.count b)) rest ∙ ap (rising 0) (of-take a.count a.board.now c.requires),
+      ),
     )
 
-pub returns-then-least-eq0 : goal.returns-then-least-eq0
-returns-then-least-eq0 c =
-    let a = c.args in
-    let i = c.loop-i.i in
-    let least = c.least_after-least in
-    let past = passed a.count i a.board.now c.loop-i.least least.result (omega arith) least.ensures in
-    sym (sym c.loop-i.invariant.1 ∙ past.0 c.if-least-eq0.true)
+pub loop-place-preserved : goal.loop-place-preserved
+loop-place-preserved c =
+    let l = c.loop-place in
+    let size : length c.in-Some.place.now ≡ 44 = search rules in
+    let same : c.next.new.self.size ≡ 44 = search rules in
+    let whole : l.place-iterator.rest.now ≡ c.in-Some.place.now ++ c.next.new.self.rest.now = search rules in
+    let first = cut l.invariant.3.0 l.place-iterator.rest.now c.in-Some.place.now c.next.new.self.rest.now l.invariant.3.1 whole size in
+    let left = places first.fewer c.next.new.self.rest.now in
+    let past = past_first l.least c.in-Some.place.now left c.least_after.result c.least_after.ensures in (
+      omega (arith, same),
+      tt,
+      same,
+      (
+        first.fewer,
+        first.size,
+        sym (ap (λ (o : Option ℕ). from_next o left) c.in-Some-least_after.is) ∙ past ∙ ap (rising l.least) (sym first.places_are) ∙ l.invariant.3.2,
+      ),
+    )
 
-pub loop-i-preserved : goal.loop-i-preserved
-loop-i-preserved c =
-    let a = c.args in
-    let i = c.loop-i.i in
-    let least = c.least_after-least in
-    let past = passed a.count i a.board.now c.loop-i.least least.result (omega arith) least.ensures in
-    (omega arith, past.1 c.if-least-eq0.false ∙ c.loop-i.invariant.1)
+pub returns-in-None-least_after : goal.returns-in-None-least_after
+returns-in-None-least_after c =
+    let l = c.loop-place in
+    let size : length c.in-Some.place.now ≡ 44 = search rules in
+    let whole : l.place-iterator.rest.now ≡ c.in-Some.place.now ++ c.next.new.self.rest.now = search rules in
+    let first = cut l.invariant.3.0 l.place-iterator.rest.now c.in-Some.place.now c.next.new.self.rest.now l.invariant.3.1 whole size in
+    let left = places first.fewer c.next.new.self.rest.now in
+    let past = past_first l.least c.in-Some.place.now left c.least_after.result c.least_after.ensures in
+    sym (ap (λ (o : Option ℕ). from_next o left) c.in-None-least_after.is) ∙ past ∙ ap (rising l.least) (sym first.places_are) ∙ l.invariant.3.2
 
 pub returns : goal.returns
-unfolding rising
+unfolding rising places
 returns c =
-    let a = c.args in
-    ap (rising c.loop-i.least) (sym (no_place a.count c.loop-i.i a.board.now (omega arith))) ∙ c.loop-i.invariant.1
+    let l = c.loop-place in
+    let few : length l.place-iterator.rest.now < 44 = search rules in
+    let none : l.invariant.3.0 ≡ 0 = omega (arith, few, l.invariant.3.1) in
+    sym (ap (λ (k : ℕ). rising l.least (places k l.place-iterator.rest.now)) none) ∙ l.invariant.3.2

@@ -1,50 +1,66 @@
--- `board::place_for` meets its contract. The invariant: the segments passed come before, and with them so many of those still to read
--- as come before all in all. The measure is how many are left. Assumes nothing.
-use Prim.Native.Nat.{ℕ, suc, ◌+◌, ◌-◌, ◌*◌, ◌≤◌, ◌<◌}
-use mathlib.Core.List.{List}
-use mathlib.Core.Path.{◌≡◌, sym, ap, ◌∙◌}
-use native.Mathlib.Numerals.{add-one}
-use native.Mathlib.Omega.{arith}
-use lib.ListN.{take, drop}
-use Rattle.board.specs.Places.{places, place_at, segment_of, before}
+-- `board::place_for` meets its contract: each turn reads the first of the places that are left. Assumes nothing.
+use Rattle.std.proofs.Common.{rules, arith, ◌+◌, ◌*◌, ◌≡◌, ◌<◌, ℕ, List, length, take, ◌++◌, ap, ◌∙◌}
+use Rattle.board.specs.Places.{places, before}
+use Rattle.board.proofs.Places.{of-take}
 use Rattle.board.proofs.Rising.{before-after, before-first}
-use Rattle.board.proofs.Places.{part, next_place, no_place}
+use Rattle.board.proofs.Cut.{cut}
+use lib.Seq.{length-take-le}
 use Rattle.board.proofs.place_for.Goals as goal
 
--- place i, whose segment comes before or not
-module _ (count i : ℕ) (b : List ℕ) (g n : ℕ) (l : i < count) (e : n ≡ segment_of (take (44 * i + 44 - 44 * i) (drop (44 * i) b))) where
-  its : n ≡ segment_of (place_at b i)
-  its = e ∙ ap segment_of (part i b)
-
-  passed_none : g ≤ n → before g (drop i (places count b)) ≡ 0
-  passed_none h = ap (before g) (next_place count i b l) ∙ before-first g (place_at b i) (drop (suc i) (places count b)) (omega (arith, its))
-
-  passed-one : n < g → before g (drop i (places count b)) ≡ suc (before g (drop (i + 1) (places count b)))
-  passed-one h =
-      ap (before g) (next_place count i b l)
-      ∙ before-after g (place_at b i) (drop (suc i) (places count b)) (omega (arith, its))
-      ∙ ap (λ (k : ℕ). suc (before g (drop k (places count b)))) (sym (add-one i))
-
-pub returns-then-segment_of-segment : goal.returns-then-segment_of-segment
-returns-then-segment_of-segment c =
+pub loop-i-init : goal.loop-i-init
+loop-i-init c =
     let a = c.args in
-    let i = c.loop-i.i in
-    let its = c.segment_of in
-    let none = passed_none a.count i a.board.now a.segment its.result (omega arith) its.ensures.number c.if-segment_of-segment.true in
-    omega (arith, none, c.loop-i.invariant.1)
+    let size : c.into_iter-i-iterator.result.iter.size ≡ 44 = search rules in
+    let none : c.into_iter-i-iterator.result.count ≡ 0 = search rules in
+    let rest : c.into_iter-i-iterator.result.iter.rest.now ≡ take (44 * a.count) a.board.now = search rules in
+    let same = ap (λ (b : List ℕ). before a.segment (places a.count b)) rest ∙ ap (before a.segment) (of-take a.count a.board.now c.requires) in (
+      search rules,
+      tt,
+      size,
+      (
+        a.count,
+        ap length rest ∙ length-take-le (44 * a.count) a.board.now c.requires,
+        omega (arith, none),
+        omega (arith, none, same),
+      ),
+    )
 
 pub loop-i-preserved : goal.loop-i-preserved
 loop-i-preserved c =
     let a = c.args in
-    let i = c.loop-i.i in
-    let its = c.segment_of in
-    let one = passed-one a.count i a.board.now a.segment its.result (omega arith) its.ensures.number
-    (omega (arith, c.if-segment_of-segment.false)) in
-    (omega arith, omega (arith, one, c.loop-i.invariant.1))
+    let l = c.loop-i in
+    let size : length c.in-Some.place.now ≡ 44 = search rules in
+    let same : c.next.new.self.iter.size ≡ 44 = search rules in
+    let next : c.next.new.self.count ≡ l.i-iterator.count + 1 = search rules in
+    let whole : l.i-iterator.iter.rest.now ≡ c.in-Some.place.now ++ c.next.new.self.iter.rest.now = search rules in
+    let first = cut l.invariant.3.0 l.i-iterator.iter.rest.now c.in-Some.place.now c.next.new.self.iter.rest.now l.invariant.3.1 whole size in
+    let one = ap (before a.segment) first.places_are ∙ before-after a.segment c.in-Some.place.now (places first.fewer c.next.new.self.iter.rest.now)
+    (omega (arith, c.segment_of.ensures.number, c.if-segment_of-segment.false)) in (
+      search rules,
+      tt,
+      same,
+      (first.fewer, first.size, omega (arith, l.invariant.3.2, first.count, next), omega (arith, one, l.invariant.3.3, next)),
+    )
+
+pub returns-then-segment_of-segment : goal.returns-then-segment_of-segment
+returns-then-segment_of-segment c =
+    let a = c.args in
+    let l = c.loop-i in
+    let size : length c.in-Some.place.now ≡ 44 = search rules in
+    let whole : l.i-iterator.iter.rest.now ≡ c.in-Some.place.now ++ c.next.new.self.iter.rest.now = search rules in
+    let first = cut l.invariant.3.0 l.i-iterator.iter.rest.now c.in-Some.place.now c.next.new.self.iter.rest.now l.invariant.3.1 whole size in
+    let at : c.in-Some.i ≡ l.i-iterator.count = search rules in
+    let none = ap (before a.segment) first.places_are ∙ before-first a.segment c.in-Some.place.now (places first.fewer c.next.new.self.iter.rest.now)
+    (omega (arith, c.segment_of.ensures.number, c.if-segment_of-segment.true)) in
+    omega (arith, at, none, l.invariant.3.3)
 
 pub returns : goal.returns
-unfolding before
+unfolding before places
 returns c =
     let a = c.args in
-    let none = ap (before a.segment) (no_place a.count c.loop-i.i a.board.now (omega arith)) in
-    omega (arith, none, c.loop-i.invariant.1)
+    let l = c.loop-i in
+    let few : length l.i-iterator.iter.rest.now < 44 = search rules in
+    let none : l.invariant.3.0 ≡ 0 = omega (arith, few, l.invariant.3.1) in
+    let left : before a.segment (places l.invariant.3.0 l.i-iterator.iter.rest.now) ≡ 0 =
+    ap (λ (k : ℕ). before a.segment (places k l.i-iterator.iter.rest.now)) none in
+    omega (arith, left, none, l.invariant.3.2, l.invariant.3.3)

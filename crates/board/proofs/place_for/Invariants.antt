@@ -1,13 +1,11 @@
--- `board::place_for` meets its contract. The invariant: the segments passed come before, and with them so many of those still to read
--- as come before all in all. The measure is how many are left. Assumes nothing.
-use Prim.Native.Nat.{◌+◌, ◌-◌, ◌≤◌}
-use mathlib.Core.Path.{◌≡◌}
-use lib.ListN.{drop}
+-- The loop's invariant: the segments passed come before, and with them so many of those still to read as come before all in all.
+use Rattle.std.proofs.Common.{◌+◌, ◌*◌, ◌≡◌, ℕ, length}
 use Rattle.board.specs.Places.{places, before}
 use Rattle.board.proofs.place_for.Given as goal
 
 abbrev pub invariant-loop-i : goal.invariant-loop-i
-invariant-loop-i l = (l.i ≤ l.count) × (l.i + before l.segment (drop l.i (places l.count l.board)) ≡ before l.segment (places l.count l.board))
-
-abbrev pub decreases-loop-i : goal.decreases-loop-i
-decreases-loop-i l = l.count - l.i
+invariant-loop-i l =
+    goal.iterator-loop-i.can_next l.i-iterator × goal.iterator-loop-i.is_finite l.i-iterator
+    × (l.i-iterator.iter.size ≡ 44)
+    × ((n : ℕ) × (length l.i-iterator.iter.rest.now ≡ 44 * n) × (l.i-iterator.count + n ≡ l.count)
+    × (l.i-iterator.count + before l.segment (places n l.i-iterator.iter.rest.now) ≡ before l.segment (places l.count l.board)))

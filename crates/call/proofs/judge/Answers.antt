@@ -20,4 +20,4 @@ unfolding judged_of of_bits
 returns-else-waits-block_length c =
     let goes = ne_eqb (waiting c.args.mode c.args.t.n + 1) (block_length c.args.mode)
     (λ e. c.if-waits-block_length.false (omega (arith, e, c.block_length.ensures, c.waits.ensures))) in
-    simp (goes, c.follow.ensures, c.unpushed.ensures)
+    simp (goes, c.follow.ensures)

@@ -1,30 +1,20 @@
--- What a call hands back, over what is gathered, is the entry's (proofs/Called); the tracker is stored where the call is done. Assumes nothing.
-use mathlib.Core.Bool.{Bool}
-use mathlib.Core.Path.{sym, ap, ◌∙◌}
-use Rattle.util.specs.Choose.{choose}
-use Rattle.drift.proofs.Called.{called_of}
+-- What a call hands back is the entry's (proofs/Called); the tracker and the block are stored where the call is done. Assumes nothing.
+use Rattle.std.proofs.Common.{rules, ◌≡◌}
+use Rattle.util.specs.Refusal.{meaning, refused, number_of}
+use Rattle.call.specs.Call.{put_at}
+use Rattle.drift.proofs.Called.{left-refused, left-done}
 use Rattle.drift.proofs.track_timing.Goals as goal
 
-pub returns-then-did : goal.returns-then-did
-returns-then-did c =
+pub returns-in_err-made : goal.returns-in_err-made
+returns-in_err-made c =
     let a = c.args in
-    let did = c.step-did.result in
-    let called = called_of a.mode a.tracker.now a.shifts.now a.blocks.now a.sample c.readable-k.result c.gather-g.result c.readable-k.ensures
-    c.gather-g.ensures did _ c.step-did.ensures in (
-      called.answer,
-      ap (λ (done : Bool). choose done did.next a.tracker.now) (sym c.if-did.true) ∙ called.tracker,
-      called.stored,
-      c.put_if.ensures ∙ called.blocks,
-    )
+    let told : meaning c.from_residual.result ≡ refused (number_of c.in_err-made.field-0.0) = search rules in
+    left-refused a.mode a.tracker.now a.shifts.now a.blocks.now a.sample c.call_over.result c.call_over.new.shifts c.call_over.ensures
+    c.in_err-made.field-0.0 c.in_err-made.was c.from_residual.result told
 
-pub returns-else-did : goal.returns-else-did
-returns-else-did c =
+pub returns : goal.returns
+returns c =
     let a = c.args in
-    let did = c.step-did.result in
-    let called = called_of a.mode a.tracker.now a.shifts.now a.blocks.now a.sample c.readable-k.result c.gather-g.result c.readable-k.ensures
-    c.gather-g.ensures did _ c.step-did.ensures in (
-      called.answer,
-      ap (λ (done : Bool). choose done did.next a.tracker.now) (sym c.if-did.false) ∙ called.tracker,
-      called.stored,
-      c.put_if.ensures ∙ called.blocks,
-    )
+    let put : c.match-made.blocks ≡ put_at a.blocks.now a.tracker.now.blocks c.in_ok-made.made.pushed = search rules in
+    left-done a.mode a.tracker.now a.shifts.now a.blocks.now a.sample c.call_over.result c.call_over.new.shifts c.call_over.ensures
+    c.in_ok-made.made c.in_ok-made.was _ put

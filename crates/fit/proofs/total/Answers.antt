@@ -1,15 +1,24 @@
--- `fit::total` meets its contract. Assumes nothing.
-use mathlib.Core.Path.{refl}
-use native.Mathlib.Omega.{arith}
-use lib.Ieee.{binary64, add, of_bits}
-use Rattle.ieee.proofs.Folds.{run-further}
-use Rattle.ieee.specs.Whole.{plus_zero, run}
+-- Each turn of the fold adds one point's term. Assumes nothing.
+use Rattle.std.proofs.Common.{rules, refl, length, ap, ◌∙◌, ◌≡◌, subst, List, [], ◌∷◌, ◌++◌}
+use Rattle.std.proofs.lemmas.Fn.{fold_over, slice_gives, fronts, says_at}
+use Rattle.std.specs.Fn.{FnReturnsAt}
+use lib.Ieee.{Float, of_bits}
+use lib.ListN.{get_or}
+use Rattle.ieee.specs.Whole.{run}
+use Rattle.blocks.specs.Doubles.{◌⊕◌}
+use Rattle.blocks.specs.Inside.{origin}
+use Rattle.blocks.specs.declared.Point.{Point}
+use Rattle.fit.specs.Fit.{sum_of}
+use Rattle.fit.proofs.Sums.{one_more}
 use Rattle.fit.proofs.total.Goals as goal
 
-pub loop-i-init : goal.loop-i-init
+pub returns : goal.returns
 unfolding of_bits run
-loop-i-init c = (omega arith, refl)
-
-pub loop-i-preserved : goal.loop-i-preserved
-loop-i-preserved c =
-    (omega arith, run-further (add binary64) plus_zero _ c.loop-i.i c.loop-i.invariant.1)
+returns g c = λ x gives.
+    subst (λ (l : List Point). c.fold.result ≡ sum_of (λ i. x (get_or l i origin)) (length l)) c.iter.ensures.rest
+    (fold_over fronts (λ y. y.now) _ (λ ys a. a ≡ sum_of (λ i. x (get_or ys i origin)) (length ys)) _
+    (λ ys a p b f' so k.
+    let next : (r : Float) → FnReturnsAt g.F.Fn c.args.term p.now r → b ≡ a ⊕ r
+    → b ≡ sum_of (λ i. x (get_or (ys ++ (p.now ∷ [])) i origin)) (length (ys ++ (p.now ∷ []))) =
+    λ r e is. is ∙ ap (λ (y : Float). a ⊕ y) (gives p.now r e) ∙ one_more x ys p.now a so in
+    search (next, says_at, rules)) c.iter.result c.iter.result.rest.now _ _ (slice_gives _) refl c.fold.ensures.ran)

@@ -7,7 +7,8 @@ use native.Mathlib.Omega.{arith}
 use lib.Ieee.{Float, nan}
 use lib.ListN.{get_or}
 use Rattle.symbol.proofs.Same.{soft-same}
-use Rattle.forms.specs.Burst.{received, value_of}
+use Rattle.forms.specs.Inside.{heard}
+use Rattle.forms.specs.Burst.{value_of}
 use Rattle.symbol.specs.Symbol.{soft_bit}
 use Rattle.util.proofs.Fill.{rows_more, rows_at}
 use Rattle.util.specs.Table.{rows}
@@ -17,7 +18,7 @@ pub loop-i-preserved : goal.loop-i-preserved
 loop-i-preserved c =
     let a = c.args in
     let i = c.loop-i.i in
-    let x : ℕ → ℕ → Float = value_of (received a.mode a.kind a.layout a.window a.terms.now a.blanked.now) in
+    let x : ℕ → ℕ → Float = value_of (heard a.burst.now) in
     let own = c.values-own in
     let stored = c.put_bits.ensures in (
       omega arith,

@@ -6,7 +6,8 @@ use native.Mathlib.Omega.{arith}
 use lib.Ieee.{Float, nan}
 use lib.ListN.{length, get_or}
 use Rattle.symbol.proofs.Same.{metric-same}
-use Rattle.forms.specs.Burst.{received, value_of, metric_at, metrics_out}
+use Rattle.forms.specs.Inside.{heard}
+use Rattle.forms.specs.Burst.{value_of, metric_at, metrics_out}
 use Rattle.symbol.specs.Symbol.{metric_out}
 use Rattle.util.proofs.Fill.{rows_more, rows_at, tabled-only}
 use Rattle.util.specs.Table.{rows}
@@ -16,7 +17,7 @@ pub loop-i-preserved : goal.loop-i-preserved
 loop-i-preserved c =
     let a = c.args in
     let i = c.loop-i.i in
-    let x : ℕ → ℕ → Float = value_of (received a.mode a.kind a.layout a.window a.terms.now a.blanked.now) in
+    let x : ℕ → ℕ → Float = value_of (heard a.burst.now) in
     let own = c.values-own in
     let stored = c.put_metrics.ensures in (
       omega arith,
@@ -30,6 +31,6 @@ pub returns : goal.returns
 unfolding metrics_out metric_at
 returns c =
     let a = c.args in
-    let x : ℕ → ℕ → Float = value_of (received a.mode a.kind a.layout a.window a.terms.now a.blanked.now) in
-    tabled-only (32 * length a.blanked.now) (rows 32 (λ i. metric_out (x i))) nan c.loop-i.out
+    let x : ℕ → ℕ → Float = value_of (heard a.burst.now) in
+    tabled-only (32 * length a.burst.now.blanked.now) (rows 32 (λ i. metric_out (x i))) nan c.loop-i.out
     (c.loop-i.invariant.1 ∙ c.requires.2) (λ q h. c.loop-i.invariant.2 q (omega arith))

@@ -4,7 +4,8 @@ use mathlib.Core.Path.{ap, ◌∙◌}
 use lib.ListN.{length, replicate}
 use Rattle.ieee.specs.Whole.{plus_zero}
 use Rattle.forms.proofs.Forms.{bits-made}
-use Rattle.forms.specs.Burst.{received, value_of}
+use Rattle.forms.specs.Inside.{heard}
+use Rattle.forms.specs.Burst.{value_of}
 use Rattle.forms.proofs.bit_form.Goals as goal
 
 pub returns : goal.returns
@@ -13,8 +14,8 @@ returns c =
       c.clear.ensures ∙ ap (λ (n : ℕ). replicate n plus_zero) c.all_bits.ensures.0,
       record {
         all = c.all_metrics.ensures;
-        cut = bits-made (length a.blanked.now) (length a.soft.now)
-            (value_of (received a.mode a.kind a.layout a.window a.terms.now a.blanked.now))
+        cut = bits-made (length a.burst.now.blanked.now) (length a.soft.now)
+            (value_of (heard a.burst.now))
             c.all_bits.new.slots _ c.requires.enough
             c.all_bits.ensures.1 c.deinterleave.ensures;
       },

@@ -8,7 +8,7 @@ use Rattle.frame.proofs.Air.{bins-some, bins-most, hop-below}
 use Rattle.frame.specs.Format.{format_of}
 use Rattle.ieee.specs.Whole.{plus_zero}
 use Rattle.forms.proofs.Ways.{value-erased, value-kept}
-use Rattle.forms.specs.Burst.{received}
+use Rattle.forms.specs.Inside.{heard}
 use Rattle.forms.proofs.values.Goals as goal
 
 pub returns-then-erased : goal.returns-then-erased
@@ -17,7 +17,7 @@ returns-then-erased c =
     let a = c.args in (
       refl,
       λ v h. get_or-replicate 32 v plus_zero nan h
-          ∙ sym (value-erased (received a.mode a.kind a.layout a.window a.terms.now a.blanked.now) a.i v
+          ∙ sym (value-erased (heard a.burst.now) a.i v
           (sym c.erased.ensures ∙ c.if-erased.true)),
     )
 
@@ -25,10 +25,10 @@ pub metrics-requires : goal.metrics-requires
 metrics-requires c =
     let a = c.args in
     let bins = c.bins.ensures in
-    let some = bins-some a.mode in (
+    let some = bins-some a.burst.now.mode in (
       omega arith,
-      omega (arith, bins-most a.mode),
-      omega (arith, c.hop-h.ensures, hop-below (format_of a.mode).bins (c.header_symbols.result + a.i) some),
+      omega (arith, bins-most a.burst.now.mode),
+      omega (arith, c.hop-h.ensures, hop-below (format_of a.burst.now.mode).bins (c.header_symbols.result + a.i) some),
       omega arith,
     )
 
@@ -37,7 +37,7 @@ returns c =
     let a = c.args in (
       c.metrics.ensures.0,
       λ v h. c.metrics.ensures.1 v h
-          ∙ value-kept (received a.mode a.kind a.layout a.window a.terms.now a.blanked.now) a.i v _ _ _
+          ∙ value-kept (heard a.burst.now) a.i v _ _ _
           (sym c.erased.ensures ∙ c.if-erased.false) c.bins.ensures
           c.hop-h.ensures c.header_symbols.ensures,
     )

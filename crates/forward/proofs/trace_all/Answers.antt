@@ -24,3 +24,12 @@ loop-j-preserved c =
       c.follow.ensures.size,
       rw more (starts_more d (j + 1) _ _ (starts_more d j _ _ inv.3 c.follow.ensures) c.follow-in-loop-j.ensures),
     )
+
+-- the last turn, after which no two steps are left
+pub returns-2 : goal.returns-2
+returns-2 c =
+    let d = c.args.decisions.now in
+    let j = c.loop-j.j in
+    let inv = c.loop-j.invariant in
+    let last : j + 1 + 1 ≡ c.args.steps = omega arith in
+    rw last at (starts_more d (j + 1) _ _ (starts_more d j _ _ inv.3 c.follow.ensures) c.follow-in-loop-j.ensures)

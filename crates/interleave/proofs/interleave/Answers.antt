@@ -1,6 +1,7 @@
 -- `interleave::interleave` meets its contract: each return by the tests that led there, and what is lent is what
 -- `place` left of cleared slots. Assumes nothing.
 use Prim.Native.Nat.{ℕ, ◌*◌}
+use Rattle.std.proofs.Common.{rules}
 use mathlib.Core.Bool.{false}
 use mathlib.Core.List.{List}
 use mathlib.Core.Path.{◌≡◌, sym, ap, ap₂, ◌∙◌}
@@ -20,6 +21,6 @@ returns-clause-lent c =
     let n : 5 * c.symbols_of-n.result ≡ slots_for (length bits) = ap (λ (x : ℕ). 5 * x) c.symbols_of-n.ensures in
     let n-slots : length c.args.slots.now ≡ slots_for (length bits) = c.if-slots-n.false ∙ n in
     let digits = sym c.some_above_one.ensures ∙ c.if-some_above_one.false in
-    let zeros = c.clear.ensures ∙ ap (λ (m : ℕ). replicate m 0) n-slots in
+    let zeros = c.fill.ensures.after (λ y e. e) ∙ ap (λ (m : ℕ). replicate m 0) n-slots in
     simp (few, eq-eqb _ _ n-slots, digits)
-    (c.place.ensures ∙ ap₂ (λ (m : ℕ) (l : List ℕ). placed m (scrambled_bit bits) (length bits) l) n zeros)
+    (c.place.ensures (scrambled_bit bits) (λ p r k. search rules) ∙ ap₂ (λ (m : ℕ) (l : List ℕ). placed m (scrambled_bit bits) (length bits) l) n zeros)

@@ -1,5 +1,6 @@
 -- `interleave::interleave_sym` meets its contract: each return by the tests that led there; every slot is written, so
 -- nothing is left of what was lent. Assumes nothing.
+use Rattle.std.proofs.Common.{rules}
 use mathlib.Core.Bool.{false}
 use mathlib.Core.Path.{◌≡◌, sym, ◌∙◌}
 use borrow.Author.Tests.{le-ltb, eq-eqb}
@@ -18,4 +19,4 @@ returns-clause-lent c =
     let few : ltb 2048 n ≡ false = le-ltb _ _ c.if-symbols-gt2048.false in
     let small = sym c.some_above.ensures ∙ c.if-some_above.false in
     simp (few, eq-eqb _ _ c.if-values-symbols.false, small)
-    (c.place.ensures ∙ placed-over n (scrambled_symbol symbols) (replicate n 0) c.args.values.now (length-replicate n 0) c.if-values-symbols.false)
+    (c.place.ensures (scrambled_symbol symbols) (λ p r k. search rules) ∙ placed-over n (scrambled_symbol symbols) (replicate n 0) c.args.values.now (length-replicate n 0) c.if-values-symbols.false)

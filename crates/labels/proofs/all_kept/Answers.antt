@@ -4,7 +4,6 @@ use Prim.Native.Nat.{ℕ, suc, ◌+◌, ◌*◌}
 use mathlib.Core.Path.{◌≡◌, ap, ◌∙◌}
 use native.Mathlib.Omega.{arith}
 use Rattle.util.specs.Every.{every}
-use Rattle.conv.proofs.Linear.{label-lt}
 use Rattle.labels.specs.Labels.{keeps_at, labelled}
 use Rattle.labels.proofs.Kept.{power-one, power-next, power-half, power-whole, adds, first-kept}
 use Rattle.labels.proofs.all_kept.Goals as goal
@@ -12,13 +11,10 @@ use Rattle.labels.proofs.all_kept.Goals as goal
 pub loop-half-init : goal.loop-half-init
 loop-half-init c = (0, power-one, first-kept c.args.table.now)
 
-pub overflow_cast-label : goal.overflow_cast-label
-overflow_cast-label c = omega (arith, c.label.ensures, label-lt c.loop-half.half)
-
 pub upper_kept-kept-requires : goal.upper_kept-kept-requires
 upper_kept-kept-requires c =
     let power = c.loop-half.invariant.1 in
-    (c.requires, power-half power c.loop-half-test.true, adds power c.label.ensures, c.loop-half.invariant.2)
+    (c.requires, power-half power c.loop-half-test.true, adds power c.by_parity.ensures, c.loop-half.invariant.2)
 
 pub loop-half-preserved : goal.loop-half-preserved
 loop-half-preserved c =

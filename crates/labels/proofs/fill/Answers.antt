@@ -4,7 +4,6 @@ use Prim.Native.Nat.{suc}
 use mathlib.Core.Path.{◌≡◌, ◌∙◌}
 use native.Mathlib.Omega.{arith}
 use lib.ListN.{length, length-set}
-use Rattle.conv.proofs.Linear.{label-lt}
 use Rattle.labels.proofs.Kept.{power-one, power-next, power-half, adds, first-filled}
 use Rattle.labels.proofs.fill.Goals as goal
 
@@ -14,13 +13,10 @@ loop-half-init c =
     let size : length table ≡ 32768 = c.requires in
     (0, power-one, length-set table 0 0 ∙ size, first-filled table (omega arith))
 
-pub overflow_cast-label : goal.overflow_cast-label
-overflow_cast-label c = omega (arith, c.label.ensures, label-lt c.loop-half.half)
-
 pub fill_upper-requires : goal.fill_upper-requires
 fill_upper-requires c =
     let inv = c.loop-half.invariant in
-    (inv.2, power-half inv.1 c.loop-half-test.true, adds inv.1 c.label.ensures, inv.3)
+    (inv.2, power-half inv.1 c.loop-half-test.true, adds inv.1 c.by_parity.ensures, inv.3)
 
 pub loop-half-preserved : goal.loop-half-preserved
 loop-half-preserved c =

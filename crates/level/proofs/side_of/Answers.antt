@@ -1,7 +1,8 @@
 -- `level::side_of` meets its contract: by the fences, or by the two counts. Assumes nothing.
 use Rattle.level.proofs.Fences.{fenced, lies-high, lies-low, lies-there, unfenced}
 use Prim.Native.Nat.{◌+◌}
-use lib.Ieee.{nan}
+use Rattle.std.proofs.Common.{rules}
+use lib.Ieee.{nan, lt, le}
 use lib.ListN.{get_or}
 use mathlib.Core.Path.{sym, ◌∙◌}
 use native.Mathlib.Omega.{arith}
@@ -12,18 +13,18 @@ returns-then-is_fenced c =
     let a = c.args in
     fenced a.marks.now a.row.now a.base a.read a.k a.b a.low a.high c.requires.2 (sym c.is_fenced.ensures ∙ c.if-is_fenced.true)
 
-pub returns-then-below-k : goal.returns-then-below-k
-returns-then-below-k c =
+pub returns-then-count-k : goal.returns-then-count-k
+returns-then-count-k c =
     let a = c.args in
-    lies-high a.marks.now a.row.now a.base a.read a.k a.b (unfenced a.marks.now (a.base + a.b) (get_or a.row.now (a.base + a.b) nan) a.low a.high (sym c.is_fenced.ensures ∙ c.if-is_fenced.false)) (omega (arith, c.below.ensures))
+    lies-high a.marks.now a.row.now a.base a.read a.k a.b (unfenced a.marks.now (a.base + a.b) (get_or a.row.now (a.base + a.b) nan) a.low a.high (sym c.is_fenced.ensures ∙ c.if-is_fenced.false)) (omega (arith, c.count.ensures.count (λ y. lt y (get_or a.row.now (a.base + a.b) nan)) (λ y t k. search rules)))
 
-pub returns-then-k-not_above : goal.returns-then-k-not_above
-returns-then-k-not_above c =
+pub returns-then-k-count : goal.returns-then-k-count
+returns-then-k-count c =
     let a = c.args in
-    lies-there a.marks.now a.row.now a.base a.read a.k a.b (unfenced a.marks.now (a.base + a.b) (get_or a.row.now (a.base + a.b) nan) a.low a.high (sym c.is_fenced.ensures ∙ c.if-is_fenced.false)) (omega (arith, c.below.ensures))
-    (omega (arith, c.not_above.ensures))
+    lies-there a.marks.now a.row.now a.base a.read a.k a.b (unfenced a.marks.now (a.base + a.b) (get_or a.row.now (a.base + a.b) nan) a.low a.high (sym c.is_fenced.ensures ∙ c.if-is_fenced.false)) (omega (arith, c.count.ensures.count (λ y. lt y (get_or a.row.now (a.base + a.b) nan)) (λ y t k. search rules)))
+    (omega (arith, c.count-2.ensures.count (λ y. le y (get_or a.row.now (a.base + a.b) nan)) (λ y t k. search rules)))
 
 pub returns : goal.returns
 returns c =
     let a = c.args in
-    lies-low a.marks.now a.row.now a.base a.read a.k a.b (unfenced a.marks.now (a.base + a.b) (get_or a.row.now (a.base + a.b) nan) a.low a.high (sym c.is_fenced.ensures ∙ c.if-is_fenced.false)) (omega (arith, c.not_above.ensures))
+    lies-low a.marks.now a.row.now a.base a.read a.k a.b (unfenced a.marks.now (a.base + a.b) (get_or a.row.now (a.base + a.b) nan) a.low a.high (sym c.is_fenced.ensures ∙ c.if-is_fenced.false)) (omega (arith, c.count-2.ensures.count (λ y. le y (get_or a.row.now (a.base + a.b) nan)) (λ y t k. search rules)))

@@ -1,11 +1,8 @@
--- `model::out_of_range` meets its contract, by the tests. Assumes nothing.
+-- `model::out_of_range` meets its contract, by the test on the least term. Assumes nothing.
 use lib.Ieee.{of_bits, neg}
 use Rattle.model.proofs.out_of_range.Goals as goal
-
-pub returns-then-t : goal.returns-then-t
-unfolding of_bits neg
-returns-then-t c = simp c.if-t.true
+use Rattle.model.proofs.out_of_range.Goals.{then-t, else-t}
 
 pub returns : goal.returns
 unfolding of_bits neg
-returns c = simp c.if-t.false
+returns c = elim c.if-t.branch [ then-t w ↦ rw (w.result-is, w.if-t.true) | else-t w ↦ rw (w.result-is, w.if-t.false) ]

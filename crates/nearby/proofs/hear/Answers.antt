@@ -1,4 +1,5 @@
 -- `nearby::hear` meets its contract, by those of its calls: the marks and the values of the row in its place. Assumes nothing.
+use lib.Ieee.{nan}
 use Prim.Native.Nat.{ℕ, ◌*◌, ◌%◌}
 use mathlib.Core.Path.{ap, ◌∙◌}
 use native.Mathlib.Omega.{arith}
@@ -12,8 +13,8 @@ returns c =
     let ratios = c.ratios-row.ensures.1 in
     let tone = c.strongest.ensures.answer in
     let marks = c.marks-held.ensures.1 in
-    let put = c.put_marks.ensures in
-    let row_put = c.put_row.ensures in
+    let put = c.put_row.ensures 0 in
+    let row_put = c.put_row-2.ensures nan in
     let pre = c.requires in
     let a = c.args in
     let row = ratio_of a.energies.now a.noise.now a.i in

@@ -9,7 +9,7 @@ use Rattle.nearby.proofs.pass_over.Goals as goal
 pub returns : goal.returns
 returns c =
     let a = c.args in
-    let put = c.put_marks.ensures in
+    let put = c.put_row.ensures 0 in
     λ values.
     moved a.i a.marks.now values _ values
     (record { marks-before = put.stored.kept; marks-after = put.after; values-before = λ k h. refl; values-after = λ k h. refl }) (λ b. none) put.stored.size refl

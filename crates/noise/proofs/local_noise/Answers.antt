@@ -19,11 +19,11 @@ abbrev Left : ℕ → Asked → ℕ → Type 0
 Left k a room = noise_answer a room ≡ outcome (drop k (causes a room)) tt
 
 -- past the three tests, n, s and o being what they found
-past : (a : Asked) (room : ℕ) (n s o : Bool) → n ≡ named a.heard.mode a.heard.kind → n ≡ true
+past : (a : Asked) (room : ℕ) (s o : Bool) → named a.heard.mode a.heard.kind ≡ true
     → s ≡ sizes a.heard.rows (length a.heard.energies) (length a.heard.noise) room → s ≡ true
     → o ≡ out_of_range a.heard.rows a.eps a.r a.heard.noise a.heard.energies → o ≡ false → noise_answer a room ≡ accepted tt
-past a room n s o e p f q g r =
-    let one : Left 1 a room = not_chosen _ _ (ap not (sym e ∙ p)) in
+past a room s o p f q g r =
+    let one : Left 1 a room = not_chosen _ _ (ap not p) in
     let two : Left 2 a room = one ∙ not_chosen _ _ (ap not (sym f ∙ q)) in
     two ∙ not_chosen _ _ (sym g ∙ r)
 
@@ -31,7 +31,7 @@ pub make-requires : goal.make-requires
 make-requires c =
     let g = c.args in
     let a = asked g.mode g.kind g.rows g.energies.now g.noise.now g.eps g.r in
-    let accepts = past a (length g.factors.now) _ _ _ c.is_named.ensures c.if-not-is_named.false c.sized.ensures c.if-not-sized.false
+    let accepts = past a (length g.factors.now) _ _ c.in_ok-named.ensures.1.1 c.sized.ensures c.if-not-sized.false
     c.out_of_range.ensures c.if-out_of_range.false in
     let ok = accepted-all a (length g.factors.now) accepts in
     (record { few = ok.few; energies-long = ok.energies-long; noise-long = ok.noise-long }, ok.factors-long)
@@ -41,7 +41,7 @@ unfolding empty_mean of_bits
 returns c =
     let g = c.args in
     let a = asked g.mode g.kind g.rows g.energies.now g.noise.now g.eps g.r in
-    let accepts = past a (length g.factors.now) _ _ _ c.is_named.ensures c.if-not-is_named.false c.sized.ensures c.if-not-sized.false
+    let accepts = past a (length g.factors.now) _ _ c.in_ok-named.ensures.1.1 c.sized.ensures c.if-not-sized.false
     c.out_of_range.ensures c.if-out_of_range.false in
     let all = done a g.factors.now _ accepts c.make.ensures in
     record { answer = all.0; lent = all.1.0; least = all.1.1 }

@@ -4,6 +4,7 @@ use Rattle.nearby.proofs.Rows.{counted-few}
 use Rattle.noise.proofs.Bins.{factors-are}
 use mathlib.Core.List.{[]}
 use mathlib.Core.Path.{◌∙◌}
+use lib.Ieee.{nan}
 use Rattle.noise.proofs.put_factors.Goals as goal
 
 pub row-factors_of-requires : goal.row-factors_of-requires
@@ -20,7 +21,7 @@ row-factors_of-requires c =
 
 pub returns : goal.returns
 returns c =
-    let put = c.put_row.ensures in
+    let put = c.put_row.ensures nan in
     let row = c.row-factors_of.ensures.1 in
     let level = c.level-level.ensures in
     let counts = c.counts-counts.ensures in

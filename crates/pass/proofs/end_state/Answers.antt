@@ -1,5 +1,4 @@
--- `pass::end_state` meets its contract. The invariant: the lowest of the greatest among the states passed.
--- The measure is what is left of them. Assumes nothing.
+-- `pass::end_state` meets its contract. The invariant: the lowest of the greatest among the states passed. Assumes nothing.
 use Prim.Native.Nat.{ℕ, ◌+◌}
 use mathlib.Core.Bool.{true, false}
 use mathlib.Core.Path.{◌≡◌, refl, ◌∙◌}
@@ -10,7 +9,7 @@ use Rattle.pass.specs.Areas.{table}
 use Rattle.trellis.specs.Numbers.{single}
 use Rattle.trellis.specs.Scale.{highest}
 use Rattle.pass.proofs.end_state.Goals as goal
-use Rattle.pass.proofs.end_state.Goals.{then-scores-s, else-scores-s}
+use Rattle.pass.proofs.end_state.Goals.{then-score-scores, else-score-scores}
 
 -- a state more, by the test
 module _ (f : ℕ → Float) (b s : ℕ) (e : b ≡ highest single f s) where
@@ -29,15 +28,15 @@ loop-s-init c = (omega arith, omega arith, refl)
 pub loop-s-preserved : goal.loop-s-preserved
 loop-s-preserved c =
     let f = table c.args.scores.now in
-    elim c.if-scores-s.branch [
-      | then-scores-s w ↦ (
+    elim c.if-score-scores.branch [
+      | then-score-scores w ↦ (
         omega arith,
         omega (arith, w.best-is),
-        w.best-is ∙ taken f c.loop-s.best c.loop-s.s c.loop-s.invariant.2 w.if-scores-s.true,
+        w.best-is ∙ taken f c.loop-s.best c.loop-s.s c.loop-s.invariant.2 w.if-score-scores.true,
       )
-      | else-scores-s w ↦ (
+      | else-score-scores w ↦ (
         omega arith,
         omega (arith, w.best-is),
-        w.best-is ∙ left f c.loop-s.best c.loop-s.s c.loop-s.invariant.2 w.if-scores-s.false,
+        w.best-is ∙ left f c.loop-s.best c.loop-s.s c.loop-s.invariant.2 w.if-score-scores.false,
       )
     ]

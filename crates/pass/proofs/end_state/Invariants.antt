@@ -1,6 +1,5 @@
--- `pass::end_state` meets its contract. The invariant: the lowest of the greatest among the states passed.
--- The measure is what is left of them. Assumes nothing.
-use Prim.Native.Nat.{◌-◌, ◌≤◌, ◌<◌}
+-- `pass::end_state` meets its contract. The invariant: the lowest of the greatest among the states passed. Assumes nothing.
+use Prim.Native.Nat.{◌≤◌, ◌<◌}
 use mathlib.Core.Path.{◌≡◌}
 use Rattle.pass.specs.Areas.{table}
 use Rattle.trellis.specs.Numbers.{single}
@@ -9,6 +8,3 @@ use Rattle.pass.proofs.end_state.Given as goal
 
 abbrev pub invariant-loop-s : goal.invariant-loop-s
 invariant-loop-s l = (l.s ≤ 16384) × (l.best < 16384) × (l.best ≡ highest single (table l.scores) l.s)
-
-abbrev pub decreases-loop-s : goal.decreases-loop-s
-decreases-loop-s l = 16384 - l.s

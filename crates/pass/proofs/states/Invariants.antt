@@ -1,5 +1,5 @@
 -- `pass::states` meets its contract. The invariant: from state k of the word on the scores and the decisions are done, the scores below
--- are as they were, and the row holds the labels of the lower registers. The measure is k. Assumes nothing.
+-- are as they were, and the row holds the labels of the lower registers. Assumes nothing.
 use Prim.Native.Nat.{ℕ, ◌+◌, ◌*◌, ◌-◌, ◌^◌, ◌≤◌, ◌<◌}
 use mathlib.Core.Path.{◌≡◌}
 use lib.ListN.{length}
@@ -15,6 +15,3 @@ invariant-loop-k l = (l.k ≤ 64) × (length l.next ≡ 16384)
     × (l.word < 2 ^ (64 - l.k))
     × ((i : ℕ) → i < 64 - l.k → flag l.word i ≡ upper (over l.metrics) (table l.scores) l.j (l.w * 64 + l.k + i))
     × Row (l.w * 64) l.row
-
-abbrev pub decreases-loop-k : goal.decreases-loop-k
-decreases-loop-k l = l.k

@@ -1,5 +1,4 @@
--- `pass::top_gain` meets its contract. The invariant: the greatest gain among the states passed.
--- The measure is what is left of them. Assumes nothing.
+-- `pass::top_gain` meets its contract. The invariant: the greatest gain among the states passed. Assumes nothing.
 use Prim.Native.Nat.{ℕ, ◌+◌}
 use mathlib.Core.Bool.{Bool, true, false}
 use mathlib.Core.Path.{◌≡◌, refl, ap, ◌∙◌}

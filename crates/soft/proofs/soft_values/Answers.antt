@@ -19,11 +19,11 @@ abbrev Left : ℕ → Asked → Type 0
 Left k a = soft_answer a ≡ outcome (drop k (causes a)) tt
 
 -- past every test, n to c being what they found
-past : (a : Asked) (n l w z t c : Bool) → n ≡ named a.mode a.kind → n ≡ true → l ≡ layout_named a.layout → l ≡ true → a.bits ≤ 10240
+past : (a : Asked) (l w z t c : Bool) → named a.mode a.kind ≡ true → l ≡ layout_named a.layout → l ≡ true → a.bits ≤ 10240
     → w ≡ listed a.window (format_of a.mode).windows → w ≡ true → z ≡ sized a → z ≡ true → t ≡ some_out a.terms → t ≡ false
     → c ≡ some_of (count_out a.window) a.counts → c ≡ false → soft_answer a ≡ accepted tt
-past a n l w z t c en n' el l' few ew w' ez z' et t' ec c' =
-    let one : Left 1 a = not_chosen _ _ (ap not (sym en ∙ n')) in
+past a l w z t c n' el l' few ew w' ez z' et t' ec c' =
+    let one : Left 1 a = not_chosen _ _ (ap not n') in
     let two : Left 2 a = one ∙ not_chosen _ _ (ap not (sym el ∙ l')) in
     let three : Left 3 a = two ∙ not_chosen _ _ (le-ltb 10240 _ few) in
     let four : Left 4 a = three ∙ not_chosen _ _ (ap not (sym ew ∙ w')) in
@@ -39,7 +39,7 @@ returns c =
     let g = c.args in
     let a = asked g.mode g.kind g.layout g.symbols g.window g.bits g.terms.now g.blanked.now g.work.now g.metrics.now g.soft.now in
     let lengths = sym c.sized.ensures ∙ c.if-not-sized.false in
-    let accepts = past a _ _ _ _ _ _ c.is_named.ensures c.if-not-is_named.false c.is_layout.ensures c.if-not-is_layout.false
+    let accepts = past a _ _ _ _ _ c.in_ok-named.ensures.1.1 c.is_layout.ensures c.if-not-is_layout.false
     c.if-bits-gt10240.false c.has_window.ensures c.if-not-has_window.false c.sized.ensures c.if-not-sized.false c.some_out.ensures
     c.if-some_out.false c.some_count_out.ensures c.if-some_count_out.false in
     let all = done a (length a.counts) (length a.soft) _ _ _ accepts (count-is a.bits _ _ _ _ _ lengths) (soft-is a.bits _ _ _ _ _ lengths)

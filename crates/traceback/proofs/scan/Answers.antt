@@ -1,5 +1,4 @@
--- `traceback::scan` meets its contract. The invariant: the states passed are considered. The measure is what is left of them.
--- Assumes nothing.
+-- `traceback::scan` meets its contract. The invariant: the states passed are considered. Assumes nothing.
 use mathlib.Core.Option.{Option}
 use mathlib.Core.Path.{refl, ap, ◌∙◌}
 use native.Mathlib.Numerals.{add-one}

@@ -1,6 +1,5 @@
--- `traceback::scan` meets its contract. The invariant: the states passed are considered. The measure is what is left of them.
--- Assumes nothing.
-use Prim.Native.Nat.{◌-◌, ◌≤◌}
+-- `traceback::scan` meets its contract. The invariant: the states passed are considered. Assumes nothing.
+use Prim.Native.Nat.{◌≤◌}
 use mathlib.Core.Path.{◌≡◌}
 use Rattle.pass.specs.Areas.{table, packed}
 use Rattle.traceback.specs.Best.{best_is}
@@ -9,6 +8,3 @@ use Rattle.traceback.proofs.scan.Given as goal
 
 abbrev pub invariant-loop-s : goal.invariant-loop-s
 invariant-loop-s l = (l.s ≤ 16384) × (best_is l.best ≡ scanned (packed l.decisions) l.steps (table l.scores) (table l.start) (best_is l.initial.best) l.s)
-
-abbrev pub decreases-loop-s : goal.decreases-loop-s
-decreases-loop-s l = 16384 - l.s

@@ -1,5 +1,4 @@
--- `traceback::trace` meets its contract. The invariant: what is left to trace, below the word so far, makes up the whole (`Tracing`).
--- The measure is the steps left. Assumes nothing.
+-- `traceback::trace` meets its contract. The invariant: what is left to trace, below the word so far, makes up the whole (`Tracing`). Assumes nothing.
 use Prim.Native.Nat.{◌-◌}
 use mathlib.Core.Bool.{true, false}
 use mathlib.Core.Path.{◌≡◌}

@@ -1,5 +1,4 @@
--- `wire::put` meets its contract. The invariant: the bytes still to write and those written behind them are the number's. The
--- measure is how many are still to write. Assumes nothing.
+-- `wire::put` meets its contract: a turn writes the last of the bytes that are still to write. Assumes nothing.
 use Prim.Native.Nat.{ℕ, zero, suc, ◌+◌, ◌-◌, ◌/◌, ◌%◌, ◌≤◌, ◌<◌}
 use mathlib.Core.List.{List, ◌∷◌, ◌++◌}
 use mathlib.Core.Path.{◌≡◌, refl, sym, ap, ap₂, ◌∙◌}

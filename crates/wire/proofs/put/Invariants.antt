@@ -1,5 +1,4 @@
--- `wire::put` meets its contract. The invariant: the bytes still to write and those written behind them are the number's. The
--- measure is how many are still to write. Assumes nothing.
+-- The loop's invariant: the bytes still to write and those written behind them are the number's.
 use Prim.Native.Nat.{◌+◌, ◌≤◌}
 use mathlib.Core.List.{◌++◌}
 use mathlib.Core.Path.{◌≡◌}
@@ -10,6 +9,3 @@ use Rattle.wire.proofs.put.Given as goal
 
 abbrev pub invariant-loop-i : goal.invariant-loop-i
 invariant-loop-i l = (length l.out ≡ length l.initial.out) × (l.i ≤ l.width) × (take l.at l.out ≡ take l.at l.initial.out) × (big l.i l.rest ++ slice (l.at + l.i) (l.at + l.width) l.out ≡ big l.width l.value)
-
-abbrev pub decreases-loop-i : goal.decreases-loop-i
-decreases-loop-i l = l.i

@@ -20,6 +20,6 @@ pub loop-k-preserved : goal.loop-k-preserved
 loop-k-preserved c =
     let a = c.args in (
       omega arith,
-      digit-more 2 (λ j. get_or a.bits.now j 0) a.at c.loop-k.k c.loop-k.sum c.wide.result c.loop-k.invariant.1 c.wide.ensures,
-      small c.loop-k.k c.loop-k.sum c.wide.result c.loop-k.invariant.2 (omega (arith, c.type_inv.bits (a.at + c.loop-k.k))),
+      digit-more 2 (λ j. get_or a.bits.now j 0) a.at c.loop-k.k c.loop-k.sum c.from.result c.loop-k.invariant.1 c.from.ensures,
+      small c.loop-k.k c.loop-k.sum c.from.result c.loop-k.invariant.2 (omega (arith, c.type_inv.bits (a.at + c.loop-k.k))),
     )
