@@ -28,7 +28,7 @@ pub struct Point {
 }
 
 // Blocks as points, with the last place, the greatest, and whether all are in range.
-#[derive(Clone, Copy)]
+#[derive(Clone, Copy, Debug, PartialEq)]
 pub struct Gathered {
     pub points: [Point; 64],
     pub last: u32,
@@ -61,7 +61,7 @@ impl Blocks for &[Block] {
 }
 
 // Blocks whose fields lie in two lists, as C lends them. Where one list is longer its rest is not read.
-#[derive(Clone, Copy)]
+#[derive(Clone, Copy, Debug, PartialEq)]
 pub struct Fields<'a> {
     pub places: &'a [u32],
     pub timings: &'a [f64],
@@ -156,7 +156,7 @@ pub fn gather<B: Blocks>(blocks: &B, k: usize) -> Gathered
     g
 }
 
-// Inside: the refusal of two lists of two lengths.
+// Inside: the refusal of two lists of two lengths, whatever number the mode is.
 pub fn two_lengths(mode: u8) -> Refusal
     ensures { number_of result ≡ choose (ltb 1 mode) 1 4 }
 {

@@ -56,6 +56,7 @@ fn score_of(y: u64) -> f32 {
 }
 
 // A header's word, with zeros above its 48 or 64 bits.
+// (The kind is a slip's number.)
 fn word_of(kind: u8, z: u64) -> u64 {
     if kind == 1 { z } else { z >> 16 }
 }

@@ -21,7 +21,7 @@ use std::io;
 use std::io::{Print, Read, Stderr, Stdout, Write};
 use util::refusal::Refusal;
 
-// How many words of decisions a header's passes fill.
+// How many words of decisions a header's passes fill. (Mode and kind are the file's numbers here and below: the entries test them.)
 fn decision_words(kind: u8) -> usize
     ensures { result ≤ 16384 }
 {

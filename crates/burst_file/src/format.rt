@@ -34,6 +34,7 @@ pub fn put_terms(bytes: &[u8], terms: &mut [f32], at: usize)
     requires { (length bytes.now ≡ 1040) × (at + 260 ≤ length terms.old) }
     ensures { Stored nan 260 at (λ i. float_at bytes.now (4 * i)) terms.old terms.new }
 {
+    // by places: each float is of four bytes
     for i in 0..260usize {
         terms[at + i] = wire::float_of(word_at(bytes, 4 * i));
     }
@@ -83,7 +84,7 @@ fn cause(refusal: Refusal) -> &'static str {
     }
 }
 
-// What the head says of the burst.
+// What the head says of the burst. Mode and kind are the file's numbers, which the entries test again.
 #[derive(Clone, Copy, Debug, PartialEq, Eq)]
 pub struct Head {
     pub mode: u8,

@@ -6,21 +6,17 @@ ghost use Rattle.symbol.specs.Symbol.{erased_of};
 ghost use Rattle.wire.specs.Bytes.{high_first};
 ghost use Rattle.burst_file.specs.Verdict.{header_bit, equals, crc_good, count_of};
 
+use std::array;
+
 // Inside: a header word's 64 bits, a byte each, bit 0 first.
 pub fn bits_of(word: u64) -> [u8; 64]
     ensures size { 64 ≡ length result }
     ensures bits { (k : ℕ) → k < 64 → get_or result k 0 ≡ header_bit word k }
 {
-    let mut out = [0u8; 64];
-    let mut rest = word;
-    for k in 0..64 {
-        out[k] = (rest % 2) as u8;
-        rest = rest / 2;
-    }
-    out
+    array::from_fn(|k| ((word >> k) % 2) as u8)
 }
 
-// The 16 bits from a place on, the first one highest.
+// The 16 bits from a place on, the first one highest. (By places, as `high_first` has them.)
 fn last_sixteen(bits: &[u8], at: usize) -> u64
     requires { at + 16 ≤ length bits.now }
     ensures { result ≡ high_first 2 (λ k. get_or bits.now k 0) at 16 }
@@ -64,7 +60,7 @@ fn more(n: u64, has: bool) -> u64
     n
 }
 
-// Inside: how many symbols are erased: in layout k more than half of their (6k+1)·window samples are blanked.
+// Inside: how many symbols are erased (by places, as `count_of` counts them): in layout k more than half of their (6k+1)·window samples are blanked.
 pub fn erased_count(layout: u8, window: u32, counts: &[u32]) -> u64
     ensures { result ≡ count_of (λ i. erased_of layout window (get_or counts.now i 0)) (length counts.now) }
 {

@@ -37,7 +37,7 @@ pub enum Misuse {
 }
 
 // What the next argument must be.
-#[derive(Clone, Copy)]
+#[derive(Clone, Copy, Debug, PartialEq, Eq)]
 enum Next {
     Word,
     Start,
@@ -45,7 +45,7 @@ enum Next {
 }
 
 // What was given so far.
-#[derive(Clone, Copy)]
+#[derive(Clone, Copy, Debug, PartialEq, Eq)]
 struct Sorted {
     options: Options,
     help: bool,

@@ -4,7 +4,7 @@ use std::fmt;
 use std::io::Error;
 use util::refusal::Refusal;
 
-#[derive(Clone, Copy)]
+#[derive(Clone, Copy, Debug)]
 pub enum Failure {
     // a read failed
     Input(Error),

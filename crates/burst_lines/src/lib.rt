@@ -8,7 +8,7 @@ use std::io::Write;
 use std::{fmt, io};
 
 // An outcome without its score: its name, and the pass that a Sure and a Likely have.
-#[derive(Clone, Copy)]
+#[derive(Clone, Copy, Debug, PartialEq)]
 pub struct Name(pub Outcome);
 
 impl Display for Name {
@@ -32,7 +32,7 @@ pub fn score(outcome: Outcome) -> Figures {
     }
 }
 
-// Inside: the header's word.
+// Inside: the header's word. The kind is the number that the file or the slip has.
 pub fn header<W: Write>(out: &mut W, kind: u8, word: u64) -> io::Result<()> {
     writeln!(out, "header {}", Word { kind, word })
 }

@@ -3,7 +3,7 @@ use std::fmt;
 use std::fmt::{Display, Formatter};
 
 // A number of 0 and above, rounded to three places where its thousandths are below 2^64: a slip's score may be any finite f32.
-#[derive(Clone, Copy)]
+#[derive(Clone, Copy, Debug, PartialEq)]
 struct Places(f64);
 
 impl Display for Places {
@@ -20,7 +20,7 @@ impl Display for Places {
 
 // Three places after the point, then the pattern, by which nothing is lost. A minus stands before a negative zero too. No NaN comes
 // here: the score of an answer or a slip, metrics and soft bits are finite.
-#[derive(Clone, Copy)]
+#[derive(Clone, Copy, Debug, PartialEq)]
 pub struct Figures(pub f32);
 
 impl Display for Figures {
@@ -36,7 +36,7 @@ impl Display for Figures {
     }
 }
 
-// A header's word: 12 digits for the 48 bits of a HeaderOnly or Cue header, 16 for the 64 of a Data header.
+// A header's word: 12 digits for the 48 bits of a HeaderOnly or Cue header, 16 for the 64 of a Data header. The kind is the burst's number.
 #[derive(Clone, Copy, Debug, PartialEq, Eq)]
 pub struct Word {
     pub kind: u8,

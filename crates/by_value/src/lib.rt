@@ -1,5 +1,5 @@
 // The drift's entries for programs that hold structs by value: each lends its own copies to the entry, as document 01 has it
-// (a slice of block records, a tracker lent for each symbol), and hands them back.
+// (a slice of block records, a tracker lent for each symbol), and hands them back. Modes are numbers, as the entries take them.
 #![tactic(auto)]
 
 ghost use Rattle.std.specs.Prelude.{◌≡◌, ◌≤◌, take};
@@ -21,7 +21,7 @@ pub fn fitted(mode: u8, n: usize, blocks: [Block; 64]) -> Result<f64, Refusal>
 }
 
 // A tracker and its blocks after a call, and the answer.
-#[derive(Clone, Copy)]
+#[derive(Clone, Copy, Debug, PartialEq)]
 pub struct Held {
     pub tracker: Tracker,
     pub blocks: [Block; 64],

@@ -40,13 +40,13 @@ fn start(bits: &[u8]) -> u32
     ensures { result ≡ made (bits_of bits.now) (length bits.now) 14 }
 {
     let mut state = 0u32;
-    for i in bits.len() - 14..bits.len() {
-        state = 2 * state + (bits[i] as u32);
+    for bit in &bits[bits.len() - 14..] {
+        state = 2 * state + (*bit as u32);
     }
     state
 }
 
-// The encoder. Each step's label goes to the step's slot.
+// The encoder. Each step's label goes to the step's slot. (The kind is its number, as `frame::header_slot` takes it for any.)
 fn encode(kind: u8, bits: &[u8], values: &mut [u8])
     requires { (length bits.now ≡ header_bits kind) × (length values.old ≡ header_bits kind) × (some_above_one bits.now ≡ false) }
     ensures { values.new ≡ labels (header_bits kind) (bits_of bits.now) }

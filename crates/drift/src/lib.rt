@@ -13,7 +13,8 @@ use call::Moved;
 use tracker::{Sample, Tracker};
 use util::refusal::Refusal;
 
-// Inside: one call by value over blocks, wherever they come from. Of what is lent only the shifts are stored.
+// Inside: one call by value over blocks, wherever they come from. Of what is lent only the shifts are stored. (The mode is its number, which
+// `call::step` tests.)
 pub fn call_over<B: Blocks>(
     mode: u8,
     t: Tracker,

@@ -133,7 +133,7 @@ pub fn fit_over(mode: u8, places: &[u32], timings: &[f64]) -> Result<f64, Refusa
     fit_listed(mode, &Fields { places, timings })
 }
 
-// Inside: the drift of k gathered blocks and b.
+// Inside: the drift of k gathered blocks and b, by the mode's number: a tracker's definitions hold for any.
 pub fn fit_with(mode: u8, g: Gathered, k: usize, b: Block) -> f64
     requires { k < 64 }
     ensures { result ≡ fitted_in mode g k b }

@@ -13,7 +13,7 @@ ghost use Rattle.forms.specs.Inside.{heard, Lent, Made};
 
 // What was received of a burst: its mode and kind by their numbers, its layout and window, its terms, and a count of blanked samples for
 // each data symbol.
-#[derive(Clone, Copy)]
+#[derive(Clone, Copy, Debug, PartialEq)]
 pub struct Burst<'a> {
     pub mode: u8,
     pub kind: u8,
@@ -47,7 +47,8 @@ fn all_metrics(burst: &Burst<'_>, out: &mut [f32])
     }
 }
 
-// The soft bits of every symbol's Gray bits, in slot order.
+// The soft bits of every symbol's Gray bits, in slot order. (No loop in common with `all_metrics`: this one leaves the rest of a longer list as
+// it was, so it promises places, where that one promises the whole list.)
 fn all_bits(burst: &Burst<'_>, slots: &mut [f32])
     requires { (length burst.now.blanked.now ≤ 2048) × (length burst.now.terms.now ≡ 260 * length burst.now.blanked.now)
         × (5 * length burst.now.blanked.now ≤ length slots.old) }
@@ -106,7 +107,7 @@ fn symbol_form(burst: &Burst<'_>, work: &mut [f32], metrics: &mut [f32], soft: &
     clear(work);
 }
 
-// Inside: either form.
+// Inside: either form, as the entry's own argument asks.
 pub fn make(
     burst: &Burst<'_>,
     symbols: bool,

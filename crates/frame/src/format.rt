@@ -19,11 +19,11 @@ pub trait Format {
 }
 
 // 28 ms symbols on a 50 Hz grid.
-#[derive(Clone, Copy)]
+#[derive(Clone, Copy, Debug, PartialEq, Eq)]
 pub struct R0;
 
 // 14 ms symbols on a 71.4 Hz grid.
-#[derive(Clone, Copy)]
+#[derive(Clone, Copy, Debug, PartialEq, Eq)]
 pub struct R1;
 
 impl Format for R0 {

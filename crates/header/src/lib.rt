@@ -23,7 +23,8 @@ pub struct HeaderAnswer {
     pub ceiling: f32,
 }
 
-// The search over accepted terms. The areas keep what the last pass left there.
+// The search over accepted terms. The areas keep what the last pass left there. (Mode and kind are their numbers here: `read` promises the
+// definitions' answer for every number.)
 fn searched(
     mode: u8,
     kind: u8,

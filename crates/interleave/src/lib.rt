@@ -14,6 +14,7 @@ ghost use Rattle.frame.specs.Air.{placed};
 ghost use Rattle.interleave.specs.Interleave.{symbols_of, scramble_of, sym_scramble_of, bit_back, sym_back};
 ghost use Rattle.interleave.specs.Sending.{bits_answer, slots_after, symbols_answer, values_after};
 
+use std::array;
 use util::refusal::Refusal;
 
 // Inside: how many symbols a burst has: five bits to each, the last one perhaps with fewer.
@@ -53,10 +54,18 @@ pub fn deinterleave(n: u64, slots: &[f32], out: &mut [f32])
     ensures { out.new ≡ tabled (length out.old) (bit_back n (λ s. get_or slots.now s nan)) }
 {
     let a = util::mult(n);
-    for p in 0..out.len() {
+    for (p, x) in out.iter_mut().enumerate() {
         let s = (a * (p as u64) % n) as usize;
-        out[p] = unscrambled(slots[s], p as u64);
+        *x = unscrambled(slots[s], p as u64);
     }
+}
+
+// The metric of value c, from slot s, whose symbol's scrambling value is r.
+fn metric(slots: &[f32], s: usize, r: u64, c: usize) -> f32
+    requires { (r < 32) × (c < 32) × (32 * s + 32 ≤ length slots.now) }
+    ensures { result ≡ get_or slots.now (32 * s + bit_xor c r) nan }
+{
+    slots[32 * s + (((c as u64) ^ r) as usize)]
 }
 
 // The 32 metrics of code symbol p, whose scrambling value is r, from slot s.
@@ -64,12 +73,8 @@ fn take_symbol(slots: &[f32], s: usize, r: u64, out: &mut [f32], p: usize)
     requires { (r < 32) × (32 * s + 32 ≤ length slots.now) × (32 * p + 32 ≤ length out.old) }
     ensures { Stored nan 32 (32 * p) (λ c. get_or slots.now (32 * s + bit_xor c r) nan) out.old out.new }
 {
-    let from = 32 * s;
-    let to = 32 * p;
-    for c in 0..32usize {
-        let v = ((c as u64) ^ r) as usize;
-        out[to + c] = slots[from + v];
-    }
+    let row: [f32; 32] = array::from_fn(|c| metric(slots, s, r, c));
+    out[32 * p..32 * p + 32].copy_from_slice(&row);
 }
 
 // Inside: the metrics of n slots back in code-symbol order and code-symbol values.

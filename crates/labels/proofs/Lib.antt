@@ -1,4 +1,3 @@
 -- Laws of this crate's definitions, for its own proofs and its callers'.
 pub mod Kept
-pub mod Made
 pub mod Refused

@@ -86,6 +86,7 @@ pub fn all_kept(table: &[u16]) -> bool
     ensures { result ≡ labelled table.now }
 {
     let mut kept = table[0] == 0;
+    // a `while`: no range doubles
     let mut half = 1usize;
     while half < 32768 {
         kept = upper_kept(table, half, by_parity(half), kept);
@@ -110,6 +111,7 @@ fn fill(table: &mut [u16])
     ensures { (length table.new ≡ 32768) × Labels 32768 table.new }
 {
     table[0] = 0;
+    // a `while`, as in `all_kept`
     let mut half = 1usize;
     while half < 32768 {
         fill_upper(table, half, by_parity(half));

@@ -12,17 +12,15 @@ ghost use Rattle.level.specs.Rank.{once, count_of, of_rank};
 ghost use Rattle.level.specs.Level.{level_from};
 ghost use Rattle.level.specs.Inside.{Row, mark_of, held_at, Fenced, Side};
 
+use std::array;
+
 // Inside: row i in units of each bin's noise.
 pub fn ratios(energies: &[f32], i: usize, noise: &[f32]) -> [f32; 52]
     requires { (52 * i + 52 ≤ length energies.now) × (length noise.now ≡ 52) }
     ensures { (length result ≡ 52) × ((b : ℕ) → b < 52 → get_or result b nan ≡ ratio_of energies.now noise.now i b) }
 {
     let base = 52 * i;
-    let mut out = [0.0f32; 52];
-    for b in 0..52usize {
-        out[b] = energies[base + b] / noise[b];
-    }
-    out
+    array::from_fn(|b| energies[base + b] / noise[b])
 }
 
 // The place of value v's bin in a symbol with hop h, (h + v) mod bins without a division. The second clause is for reads there.
@@ -70,13 +68,7 @@ pub fn marks(e: u32) -> [u32; 52]
     requires { e ≤ 52 }
     ensures { (length result ≡ 52) × ((b : ℕ) → b < 52 → get_or result b 0 ≡ mark_of e b) }
 {
-    let mut out = [1u32; 52];
-    for b in 0..52u32 {
-        if is_around(e, b) {
-            out[b as usize] = 0;
-        }
-    }
-    out
+    array::from_fn(|b| if is_around(e, b as u32) { 0 } else { 1 })
 }
 
 // 1 for a bin that is there and passes a test, else 0. The second clause is for sums of them.
@@ -87,17 +79,28 @@ fn counted(mark: u32, passes: bool) -> u32
     if mark == 1 { passes as u32 } else { 0 }
 }
 
-// How many of a row's bins are there and pass a test. (The row's bins stand in the two lists from `base` on.)
-fn count<F: Fn(f32) -> bool>(marks: &[u32], row: &[f32], base: usize, read: usize, passes: F) -> u32
-    requires row { Row marks.now row.now base read }
-    requires callable { F.IsAlwaysCallable passes }
-    ensures few { result ≤ read }
+// A row's first bins as the code holds them: from `base` on a mark for each in the one list, 1 where the bin is there and 0 where it is missing,
+// and its value in the other.
+#[derive(Clone, Copy, Debug, PartialEq)]
+pub struct Bins<'a> {
+    pub marks: &'a [u32],
+    pub values: &'a [f32],
+    pub base: usize,
+    pub read: usize,
+    ghost there: { Row marks.now values.now base read },
+}
+
+// How many of a row's bins are there and pass a test.
+fn count<F: Fn(f32) -> bool>(bins: &Bins<'_>, passes: F) -> u32
+    requires { F.IsAlwaysCallable passes }
+    ensures few { result ≤ bins.now.read }
     ensures count { (test : Float → Bool) → ((y : Float) (b : Bool) → F.post passes y b → b ≡ test y)
-        → result ≡ count_of test (held_at marks.now row.now base) read }
+        → result ≡ count_of test (held_at bins.now.marks.now bins.now.values.now bins.now.base) bins.now.read }
 {
     let mut n = 0u32;
-    for b in 0..read {
-        n += counted(marks[base + b], passes(row[base + b]));
+    for b in 0..bins.read {
+        let at = bins.base + b;
+        n += counted(bins.marks[at], passes(bins.values[at]));
     }
     n
 }
@@ -112,7 +115,7 @@ fn is_fenced(mark: u32, low: f32, high: f32, x: f32) -> bool
 
 // What is told of a bin: that it is there and has rank k, from 0, among those of the row that are there; that it lies too low for that, or
 // too high; or that it is missing, or that the fences tell without counting that it has not.
-#[derive(Clone, Copy)]
+#[derive(Clone, Copy, Debug, PartialEq, Eq)]
 enum Lies {
     There,
     Low,
@@ -121,27 +124,18 @@ enum Lies {
 }
 
 // What is told of bin b.
-fn side_of(
-    marks: &[u32],
-    row: &[f32],
-    base: usize,
-    read: usize,
-    k: u32,
-    low: f32,
-    high: f32,
-    b: usize,
-) -> Lies
-    requires { Row marks.now row.now base read × (b < read) × Fenced (held_at marks.now row.now base) read k low high }
-    ensures { Side marks.now row.now base read k b result }
+fn side_of(bins: &Bins<'_>, k: u32, low: f32, high: f32, b: usize) -> Lies
+    requires { (b < bins.now.read) × Fenced (held_at bins.now.marks.now bins.now.values.now bins.now.base) bins.now.read k low high }
+    ensures { Side bins.now.marks.now bins.now.values.now bins.now.base bins.now.read k b result }
 {
-    let x = row[base + b];
-    if is_fenced(marks[base + b], low, high, x) {
+    let x = bins.values[bins.base + b];
+    if is_fenced(bins.marks[bins.base + b], low, high, x) {
         return Lies::Fenced;
     }
-    if count(marks, row, base, read, |y| y < x) > k {
+    if count(bins, |y| y < x) > k {
         return Lies::High;
     }
-    if k < count(marks, row, base, read, |y| y <= x) {
+    if k < count(bins, |y| y <= x) {
         return Lies::There;
     }
     Lies::Low
@@ -149,18 +143,17 @@ fn side_of(
 
 // The value of rank k among a row's bins that are there: the first of them that has it. (One has: proofs/Found.antt.) A value that was
 // tried and lay too low, or too high, is a fence: what lies beyond it need not be tried.
-fn of_rank(marks: &[u32], row: &[f32], base: usize, read: usize, k: u32) -> f32
-    requires { Row marks.now row.now base read }
-    ensures { result ≡ of_rank (held_at marks.now row.now base) read k }
+fn of_rank(bins: &Bins<'_>, k: u32) -> f32
+    ensures { result ≡ of_rank (held_at bins.now.marks.now bins.now.values.now bins.now.base) bins.now.read k }
 {
     let unknown = 0.0 / 0.0;
     let mut low = unknown;
     let mut high = unknown;
-    for b in 0..read {
-        match side_of(marks, row, base, read, k, low, high, b) {
-            Lies::There => return row[base + b],
-            Lies::Low => low = row[base + b],
-            Lies::High => high = row[base + b],
+    for b in 0..bins.read {
+        match side_of(bins, k, low, high, b) {
+            Lies::There => return bins.values[bins.base + b],
+            Lies::Low => low = bins.values[bins.base + b],
+            Lies::High => high = bins.values[bins.base + b],
             Lies::Fenced => {}
         }
     }
@@ -168,9 +161,8 @@ fn of_rank(marks: &[u32], row: &[f32], base: usize, read: usize, k: u32) -> f32
 }
 
 // Inside: a row's level by its value of rank k, `less` being what is taken off it (3/√m): not below 1.
-pub fn level(marks: &[u32], row: &[f32], base: usize, read: usize, k: u32, less: f32) -> f32
-    requires { Row marks.now row.now base read }
-    ensures { result ≡ level_from (of_rank (held_at marks.now row.now base) read k) less }
+pub fn level(bins: &Bins<'_>, k: u32, less: f32) -> f32
+    ensures { result ≡ level_from (of_rank (held_at bins.now.marks.now bins.now.values.now bins.now.base) bins.now.read k) less }
 {
-    ieee::larger(of_rank(marks, row, base, read, k) / 0.6931472 - less, 1.0)
+    ieee::larger(of_rank(bins, k) / 0.6931472 - less, 1.0)
 }

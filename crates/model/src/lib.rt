@@ -9,6 +9,8 @@ ghost use Rattle.frame.specs.Air.{bin_of, place_of};
 ghost use Rattle.model.specs.Metric.{metric_of};
 ghost use Rattle.model.specs.Range.{out_of_range, some_out};
 
+use std::array;
+
 // Inside: the metric of the value whose bin has place e, in a symbol: the sum from 0.0 of five terms, each a
 // row and a place further on.
 pub fn metric(terms: &[f32], symbol: usize, e: usize) -> f32
@@ -25,12 +27,10 @@ pub fn metrics(bins: u64, h: u64, terms: &[f32], symbol: usize) -> [f32; 32]
     ensures { (length result ≡ 32) × ((v : ℕ) → v < 32 → get_or result v nan
         ≡ metric_of (add binary32) plus_zero (λ i. get_or terms.now i nan) symbol (place_of (bin_of bins h v))) }
 {
-    let mut out = [0.0f32; 32];
-    for v in 0..32usize {
+    array::from_fn(|v| {
         let e = frame::place(frame::tone_bin(bins, h, v as u64)) as usize;
-        out[v] = metric(terms, symbol, e);
-    }
-    out
+        metric(terms, symbol, e)
+    })
 }
 
 // Whether a term is not finite or beyond ±1,000,000.

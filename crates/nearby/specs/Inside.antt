@@ -1,11 +1,13 @@
 -- How the code holds the 25 rows heard last: row i in place i modulo 25, 52 bins each, as crate `level` holds a row.
-use Rattle.std.specs.Prelude.{ℕ, ◌+◌, ◌*◌, ◌%◌, ◌≤◌, ◌<◌, List, ◌≡◌, length, get_or, Float}
+use Rattle.std.specs.Prelude.{ℕ, ◌+◌, ◌*◌, ◌%◌, ◌≤◌, ◌<◌, List, ◌≡◌, length, get_or, replicate, Float}
 use Rattle.std.proofs.Math.Option.{Option}
 use Rattle.std.specs.Float.{nan}
 use Rattle.util.specs.Table.{Stored}
 use Rattle.level.specs.Rank.{there_of}
 use Rattle.level.specs.Inside.{held_at}
 use Rattle.nearby.specs.Sum.{sum_of}
+use Rattle.nearby.specs.declared.LastRows.{LastRows}
+use Rattle.ieee.specs.Whole.{plus_zero}
 
 -- w places from base on hold row, and every other is as it was, behind them too
 pub record Put {A : Type 0} (d : A) (w base : ℕ) (row : ℕ → A) (was new : List A) : Type 0 where
@@ -46,3 +48,7 @@ pub record Summed (marks : List ℕ) (values : List Float) (n m : ℕ) (sums : L
 pub record Counted (marks : List ℕ) (values : List Float) (n m : ℕ) (counts : List ℕ) : Type 0 where
   pub size : length counts ≡ 52
   pub each : (b : ℕ) → b < 52 → get_or counts b 0 ≡ there_of (λ k. placed marks values (n + k) b) m
+
+-- no row heard yet: every bin of all 25 is missing
+abbrev pub no_rows : LastRows
+no_rows = record { marks = replicate 1300 0; values = replicate 1300 plus_zero }

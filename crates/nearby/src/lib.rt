@@ -11,7 +11,7 @@ ghost use Rattle.level.specs.Row.{ratio_of, strongest_of, held_of};
 ghost use Rattle.level.specs.Rank.{once};
 ghost use Rattle.level.specs.Inside.{held_at};
 ghost use Rattle.nearby.specs.Sum.{with_next};
-ghost use Rattle.nearby.specs.Inside.{Put, Each, Onward, Moved, Summed, Counted};
+ghost use Rattle.nearby.specs.Inside.{no_rows, Put, Each, Onward, Moved, Summed, Counted};
 
 // A sum with the next value, where that is there.
 fn with_next(sum: f32, mark: u32, x: f32) -> f32
@@ -28,69 +28,29 @@ fn count_next(count: u32, mark: u32) -> u32
     if mark == 1 { count + 1 } else { count }
 }
 
-// A row more in the sums of the bins from `from` to before `to`, those before them having it already.
-fn add_bins(marks: &[u32], values: &[f32], base: usize, from: usize, to: usize, sums: &mut [f32])
-    requires { (base + 52 ≤ length marks.now) × (base + 52 ≤ length values.now) × (from ≤ to) × (to ≤ 52) × (length sums.old ≡ 52) }
-    ensures same { length sums.new ≡ 52 }
-    ensures more { Onward nan from to (λ b s. with_next s (held_at marks.now values.now base b)) sums.old sums.new }
+// The bins from `from` to before `to` through a function of their place, those before them having gone through it already.
+fn onward<T: Copy, F: Fn(usize, T) -> T>(list: &mut [T], from: usize, to: usize, f: &F)
+    requires inside { (from ≤ to) × (to ≤ 52) × (length list.old ≡ 52) }
+    requires callable { (d : T) (b : ℕ) → from ≤ b → b < to → F.pre f.now b (get_or list.old b d) }
+    ensures same { length list.new ≡ 52 }
+    ensures rest { (d : T) (b : ℕ) → to ≤ b → get_or list.new b d ≡ get_or list.old b d }
+    ensures more { (d : T) (next : ℕ → T → T) → ((b : ℕ) (t r : T) → F.post f.now b t r → r ≡ next b t)
+        → Onward d from to next list.old list.new }
 {
     for b in from..to {
-        sums[b] = with_next(sums[b], marks[base + b], values[base + b]);
+        list[b] = f(b, list[b]);
     }
 }
 
-// A row more in the sums of every bin: 48 and 4, so that a compiler can take eight at a time, and four.
-fn add_row(marks: &[u32], values: &[f32], base: usize, sums: &mut [f32])
-    requires { (base + 52 ≤ length marks.now) × (base + 52 ≤ length values.now) × (length sums.old ≡ 52) }
-    ensures { Each nan 52 (λ b s. with_next s (held_at marks.now values.now base b)) sums.old sums.new }
+// Every bin through a function of its place: 48 and 4, so that a compiler can take eight at a time, and four.
+fn each_bin<T: Copy, F: Fn(usize, T) -> T>(list: &mut [T], f: F)
+    requires size { length list.old ≡ 52 }
+    requires callable { (d : T) (b : ℕ) → b < 52 → F.pre f b (get_or list.old b d) }
+    ensures { (d : T) (next : ℕ → T → T) → ((b : ℕ) (t r : T) → F.post f b t r → r ≡ next b t)
+        → Each d 52 next list.old list.new }
 {
-    add_bins(marks, values, base, 0, 48, sums);
-    add_bins(marks, values, base, 48, 52, sums);
-}
-
-// A row more in the counts of the bins from `from` to before `to`, as in the sums.
-fn count_bins(marks: &[u32], base: usize, from: usize, to: usize, counts: &mut [u32])
-    requires { (base + 52 ≤ length marks.now) × (from ≤ to) × (to ≤ 52) × (length counts.old ≡ 52)
-        × ((b : ℕ) → from ≤ b → b < 52 → get_or counts.old b 0 ≤ 25) }
-    ensures same { length counts.new ≡ 52 }
-    ensures more { Onward 0 from to (λ b n. n + once (eqb (get_or marks.now (base + b) 0) 1)) counts.old counts.new }
-{
-    for b in from..to {
-        counts[b] = count_next(counts[b], marks[base + b]);
-    }
-}
-
-// A row more in the counts of every bin.
-fn count_row(marks: &[u32], base: usize, counts: &mut [u32])
-    requires { (base + 52 ≤ length marks.now) × (length counts.old ≡ 52) × ((b : ℕ) → b < 52 → get_or counts.old b 0 ≤ 25) }
-    ensures { Each 0 52 (λ b n. n + once (eqb (get_or marks.now (base + b) 0) 1)) counts.old counts.new }
-{
-    count_bins(marks, base, 0, 48, counts);
-    count_bins(marks, base, 48, 52, counts);
-}
-
-// Inside: the sums of every bin over the 25 rows, the one in place `first` (modulo 25) first.
-pub fn sums(marks: &[u32], values: &[f32], first: usize) -> [f32; 52]
-    requires { (length marks.now ≡ 1300) × (length values.now ≡ 1300) × (first ≤ 4096) }
-    ensures { Summed marks.now values.now first 25 result }
-{
-    let mut out = [0.0f32; 52];
-    for k in 0..25usize {
-        add_row(marks, values, 52 * ((first + k) % 25), &mut out);
-    }
-    out
-}
-
-// Inside: how many of the 25 rows have each bin.
-pub fn counts(marks: &[u32], first: usize) -> [u32; 52]
-    requires { (length marks.now ≡ 1300) × (first ≤ 4096) }
-    ensures { (values : List Float) → Counted marks.now values first 25 result }
-{
-    let mut out = [0u32; 52];
-    for n in 0..25usize {
-        count_row(marks, 52 * ((first + n) % 25), &mut out);
-    }
-    out
+    onward(list, 0, 48, &f);
+    onward(list, 48, 52, &f);
 }
 
 // Inside: 52 values, or 52 marks, into a list, from base on.
@@ -101,34 +61,73 @@ pub fn put_row<T: Copy>(row: &[T], list: &mut [T], base: usize)
     list[base..base + 52].copy_from_slice(row);
 }
 
-// Inside: row i heard, with hop h: into its place among the 25, that of the row 25 before it.
-pub fn hear(
-    bins: u64,
-    h: u64,
-    energies: &[f32],
-    noise: &[f32],
-    i: usize,
-    marks: &mut [u32],
-    values: &mut [f32],
-)
-    requires { (32 ≤ bins) × (bins ≤ 48) × (h < bins) × (52 * i + 52 ≤ length energies.now) × (length noise.now ≡ 52)
-        × (length marks.old ≡ 1300) × (length values.old ≡ 1300) }
-    ensures { Moved i (held_of (ratio_of energies.now noise.now i)
-        (strongest_of bins h (ratio_of energies.now noise.now i)))
-        marks.old values.old marks.new values.new }
-{
-    let base = 52 * (i % 25);
-    let row = level::ratios(energies, i, noise);
-    let held = level::marks(level::strongest(bins, h, &row));
-    put_row(&held, marks, base);
-    put_row(&row, values, base);
+// The 25 rows heard last, 52 bins each: a mark for each bin, 1 where it is there and 0 where it is missing, and its value.
+#[derive(Clone, Copy, Debug, PartialEq)]
+pub struct LastRows {
+    pub marks: [u32; 1300],
+    pub values: [f32; 1300],
 }
 
-// Inside: there is no row i: all of it is missing.
-pub fn pass_over(i: usize, marks: &mut [u32])
-    requires { length marks.old ≡ 1300 }
-    ensures { (values : List Float) → Moved i (λ b. none) marks.old values marks.new values }
-{
-    let missing = [0u32; 52];
-    put_row(&missing, marks, 52 * (i % 25));
+impl LastRows {
+    // Inside: none is heard yet: all of them are missing.
+    pub fn none() -> LastRows
+        ensures { result ≡ no_rows }
+    {
+        LastRows {
+            marks: [0; 1300],
+            values: [0.0; 1300],
+        }
+    }
+
+    // Inside: the sums of every bin over the 25 rows, the one in place `first` (modulo 25) first.
+    pub fn sums(&self, first: usize) -> [f32; 52]
+        requires { first ≤ 4096 }
+        ensures { Summed self.now.marks self.now.values first 25 result }
+    {
+        let mut out = [0.0f32; 52];
+        for k in 0..25usize {
+            let base = 52 * ((first + k) % 25);
+            each_bin(
+                &mut out,
+                |b, sum| with_next(sum, self.marks[base + b], self.values[base + b]),
+            );
+        }
+        out
+    }
+
+    // Inside: how many of the 25 rows have each bin.
+    pub fn counts(&self, first: usize) -> [u32; 52]
+        requires { first ≤ 4096 }
+        ensures { (values : List Float) → Counted self.now.marks values first 25 result }
+    {
+        let mut out = [0u32; 52];
+        for n in 0..25usize {
+            let base = 52 * ((first + n) % 25);
+            each_bin(&mut out, |b, count| count_next(count, self.marks[base + b]));
+        }
+        out
+    }
+
+    // Inside: row i heard, with hop h: into its place among the 25, that of the row 25 before it.
+    pub fn hear(&mut self, bins: u64, h: u64, energies: &[f32], noise: &[f32], i: usize)
+        requires { (32 ≤ bins) × (bins ≤ 48) × (h < bins) × (52 * i + 52 ≤ length energies.now) × (length noise.now ≡ 52) }
+        ensures { Moved i (held_of (ratio_of energies.now noise.now i)
+            (strongest_of bins h (ratio_of energies.now noise.now i)))
+            self.old.marks self.old.values self.new.marks self.new.values }
+    {
+        let base = 52 * (i % 25);
+        let row = level::ratios(energies, i, noise);
+        let held = level::marks(level::strongest(bins, h, &row));
+        put_row(&held, &mut self.marks, base);
+        put_row(&row, &mut self.values, base);
+    }
+
+    // Inside: there is no row i: all of it is missing.
+    pub fn pass_over(&mut self, i: usize)
+        ensures moved { (values : List Float) → Moved i (λ b. none) self.old.marks values self.new.marks values }
+        ensures kept { self.new.values ≡ self.old.values }
+    {
+        let missing = [0u32; 52];
+        put_row(&missing, &mut self.marks, 52 * (i % 25));
+    }
 }

@@ -4,14 +4,11 @@ use mathlib.Core.Bool.{true}
 use mathlib.Core.List.{List}
 use mathlib.Core.Logic.{⊎_elim}
 use mathlib.Core.Path.{◌≡◌, refl, sym, ap, ap₂, ◌∙◌}
-use native.Mathlib.Nat.{ne_of_lt}
 use native.Mathlib.Omega.{arith}
-use borrow.Author.Count.{below_more}
 use borrow.Author.Tests.{leb-true, lt-ltb, le-ltb}
 use lib.Dec.{leb, ltb, lit<}
 use lib.IntN.{pos}
-use lib.ListN.{length, get_or, set}
-use lib.Seq.{get_or-set_same, get_or-set_other}
+use lib.ListN.{get_or}
 use lib.Ieee.{Float, nan, binary32, of_int, sub, div}
 use Rattle.util.specs.Choose.{choose}
 use Rattle.util.proofs.Choose.{chosen, not_chosen, choose-same}
@@ -38,13 +35,6 @@ factor-same sum count empty less less' level e =
     let mean = div binary32 (div binary32 sum (of_int binary32 (pos count))) empty in
     ap (λ (x : Float). larger (larger x level) one)
     (choose-same (leb 6 count) (sub binary32 mean less) (sub binary32 mean less') one one (λ t. ap (sub binary32 mean) (e (leb-true 6 count t))) (λ f. refl))
-
--- ---- a list of errors, one more
-pub errors-more : (out : List Float) (c : ℕ) (v : Float) → c < length out → v ≡ two_errors c → ((k : ℕ) → 1 ≤ k → k < c → get_or out k nan ≡ two_errors k)
-    → (k : ℕ) → 1 ≤ k → k < c + 1 → get_or (set out c v) k nan ≡ two_errors k
-errors-more out c v inside e rest k l h =
-    below_more (λ (k : ℕ). 1 ≤ k → get_or (set out c v) k nan ≡ two_errors k) c
-    (λ k h l. get_or-set_other out c k v nan (ne_of_lt h) ∙ rest k l h) (λ l. get_or-set_same out c v nan inside ∙ e) k h l
 
 -- ---- a row of factors, 1 beyond the bins that are read
 pub passed-all : (f : ℕ → Float) (read : ℕ) (out : List Float) → Passed nan one f read out → (b : ℕ) → b < 52 → get_or out b nan ≡ choose (ltb b read) (f b) one

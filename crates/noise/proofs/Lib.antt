@@ -5,6 +5,5 @@ pub mod Least
 pub mod Either
 pub mod Shown
 pub mod Bins
-pub mod Ranges
 pub mod Answer
 pub mod Refused

@@ -15,6 +15,9 @@ ghost use Rattle.noise.specs.Local.{Burst, burst, factor_from, factor_at, factor
 ghost use Rattle.noise.specs.Entry.{asked, outside, out_of_range, sizes, noise_answer, factors_after, AtLeastOne};
 ghost use Rattle.noise.specs.Inside.{Lent, Errors, Ready, numbered};
 
+use level::Bins;
+use nearby::LastRows;
+use std::array;
 use util::refusal::Refusal;
 
 // Two standard errors of a mean of c values, for c from 1 to 25.
@@ -22,11 +25,7 @@ fn two_errors() -> [f32; 26]
     ensures { Errors result }
 {
     let roots = root_table::roots();
-    let mut out = [0.0f32; 26];
-    for c in 1..26usize {
-        out[c] = 2.0 / roots[c - 1];
-    }
-    out
+    array::from_fn(|c| if c == 0 { 0.0 } else { 2.0 / roots[c - 1] })
 }
 
 // Two standard errors of a median of m values, each 1.5/√m of the mean.
@@ -64,6 +63,7 @@ fn row(
         (get_or errors.now (get_or counts.now b 0) nan) level) one) }
 {
     let mut out = [1.0f32; 52];
+    // A loop: over from_fn with the 1 as its other branch the call's proof does not come to `choose` of the two.
     for b in 0..read {
         out[b] = factor(sums[b], counts[b], empty, errors[counts[b] as usize], level);
     }
@@ -72,8 +72,7 @@ fn row(
 
 // Row i's factors into their places, of whatever burst the 25 rows around it are.
 fn put_factors(
-    marks: &[u32],
-    values: &[f32],
+    last: &LastRows,
     i: usize,
     read: usize,
     less: f32,
@@ -81,26 +80,25 @@ fn put_factors(
     errors: &[f32],
     factors: &mut [f32],
 )
-    requires { (length marks.now ≡ 1300) × (length values.now ≡ 1300) × (i ≤ 2048) × (13 ≤ read) × (read ≤ 52) × (length errors.now ≡ 26)
+    requires { (i ≤ 2048) × (13 ≤ read) × (read ≤ 52) × (length errors.now ≡ 26)
         × (52 * i + 52 ≤ length factors.old) }
-    ensures { (a : Burst) → Ready a i marks.now values.now read less → Errors errors.now
+    ensures { (a : Burst) → Ready a i last.now.marks last.now.values read less → Errors errors.now
         → Put nan 52 (52 * i) (factor_at a empty i) factors.old factors.new }
 {
-    let sums = nearby::sums(marks, values, i + 13);
-    let counts = nearby::counts(marks, i + 13);
-    let level = level::level(
-        marks,
-        values,
-        52 * (i % 25),
+    let sums = last.sums(i + 13);
+    let counts = last.counts(i + 13);
+    let bins = Bins {
+        marks: &last.marks,
+        values: &last.values,
+        base: 52 * (i % 25),
         read,
-        ((read - 5) / 2) as u32,
-        less,
-    );
+    };
+    let level = level::level(&bins, ((read - 5) / 2) as u32, less);
     let factors_of = row(&sums, &counts, read, empty, errors, level);
     nearby::put_row(&factors_of, factors, 52 * i);
 }
 
-// Row t heard, or passed over where there is none.
+// Row t heard, or passed over where there is none. (Here and below mode and kind are their numbers, as in the definition `burst`.)
 fn listen(
     mode: u8,
     kind: u8,
@@ -108,18 +106,17 @@ fn listen(
     energies: &[f32],
     noise: &[f32],
     t: usize,
-    marks: &mut [u32],
-    values: &mut [f32],
+    last: &mut LastRows,
 )
     requires { Lent rows (length energies.now) (length noise.now) × (t ≤ 4096)
-        × Nearby (numbered (burst mode kind rows energies.now noise.now)) t marks.old values.old }
-    ensures { Nearby (numbered (burst mode kind rows energies.now noise.now)) (t + 1) marks.new values.new }
+        × Nearby (numbered (burst mode kind rows energies.now noise.now)) t last.old.marks last.old.values }
+    ensures { Nearby (numbered (burst mode kind rows energies.now noise.now)) (t + 1) last.new.marks last.new.values }
 {
     if t < rows {
         let h = frame::hop(mode, frame::header_symbols(kind) + (t as u64));
-        nearby::hear(frame::bins(mode), h, energies, noise, t, marks, values);
+        last.hear(frame::bins(mode), h, energies, noise, t);
     } else {
-        nearby::pass_over(t, marks);
+        last.pass_over(t);
     }
 }
 
@@ -130,15 +127,14 @@ fn listen_ahead(
     rows: usize,
     energies: &[f32],
     noise: &[f32],
-    marks: &mut [u32],
-    values: &mut [f32],
+    last: &mut LastRows,
 )
     requires { Lent rows (length energies.now) (length noise.now)
-        × Nearby (numbered (burst mode kind rows energies.now noise.now)) 0 marks.old values.old }
-    ensures { Nearby (numbered (burst mode kind rows energies.now noise.now)) 12 marks.new values.new }
+        × Nearby (numbered (burst mode kind rows energies.now noise.now)) 0 last.old.marks last.old.values }
+    ensures { Nearby (numbered (burst mode kind rows energies.now noise.now)) 12 last.new.marks last.new.values }
 {
     for t in 0..12usize {
-        listen(mode, kind, rows, energies, noise, t, marks, values);
+        listen(mode, kind, rows, energies, noise, t, last);
     }
 }
 
@@ -158,21 +154,11 @@ fn make(
     let read = (frame::bins(mode) + 4) as usize;
     let less = median_errors(read - 5);
     let errors = two_errors();
-    let mut marks = [0u32; 1300];
-    let mut values = [0.0f32; 1300];
-    listen_ahead(mode, kind, rows, energies, noise, &mut marks, &mut values);
+    let mut last = LastRows::none();
+    listen_ahead(mode, kind, rows, energies, noise, &mut last);
     for i in 0..rows {
-        listen(
-            mode,
-            kind,
-            rows,
-            energies,
-            noise,
-            i + 12,
-            &mut marks,
-            &mut values,
-        );
-        put_factors(&marks, &values, i, read, less, empty, &errors, factors);
+        listen(mode, kind, rows, energies, noise, i + 12, &mut last);
+        put_factors(&last, i, read, less, empty, &errors, factors);
     }
 }
 

@@ -1,5 +1,5 @@
 // What a record asks, and what is drawn for it from its seed, before any damage. Every float is made of its bits, so that no two
-// languages can round it apart.
+// languages can round it apart. (Mode and kind are the numbers that the record has.)
 ghost use Rattle.std.specs.Prelude.{◌≤◌};
 
 use records::mixed;

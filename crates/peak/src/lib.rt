@@ -3,33 +3,22 @@
 // number is looked for afterwards. Definitions in specs/.
 #![tactic(auto)]
 
-ghost use Rattle.std.specs.Prelude.{◌≡◌, ◌+◌, ◌<◌, length};
+ghost use Rattle.std.specs.Prelude.{Float, ℕ, ◌≡◌, ◌+◌, ◌<◌, length};
 ghost use Rattle.trellis.specs.Numbers.{single};
 ghost use Rattle.trellis.specs.Scale.{highest};
 ghost use Rattle.pass.specs.Areas.{table};
 ghost use Rattle.peak.specs.Peak.{gain_in, top_in, greatest, Lanes, Peak};
 
-// Sixteen scores more, from place 16 i on: a lane takes its one only where it is strictly greater.
-fn more(lanes: &[f32; 16], scores: &[f32], i: usize) -> [f32; 16]
-    requires { (length scores.now ≡ 16384) × (i < 1024) × Lanes (table scores.now) i lanes.now }
-    ensures { Lanes (table scores.now) (i + 1) result }
+// Sixteen numbers more, from place 16 i on: a lane takes its one only where it is strictly greater.
+fn more<F: Fn(usize) -> f32>(lanes: &[f32; 16], number: &F, i: usize) -> [f32; 16]
+    requires inside { i < 1024 }
+    requires callable { (s : ℕ) → s < 16384 → F.pre number.now s }
+    ensures { (x : ℕ → Float) → ((s : ℕ) (r : Float) → F.post number.now s r → r ≡ x s)
+        → Lanes x i lanes.now → Lanes x (i + 1) result }
 {
     let mut r = [0.0f32; 16];
     for k in 0..16usize {
-        r[k] = pass::greater(lanes[k], scores[i * 16 + k]);
-    }
-    r
-}
-
-// Sixteen gains more, in the same way.
-fn more_gains(lanes: &[f32; 16], scores: &[f32], start: &[f32], i: usize) -> [f32; 16]
-    requires { (length scores.now ≡ 16384) × (length start.now ≡ 16384) × (i < 1024)
-        × Lanes (gain_in scores.now start.now) i lanes.now }
-    ensures { Lanes (gain_in scores.now start.now) (i + 1) result }
-{
-    let mut r = [0.0f32; 16];
-    for k in 0..16usize {
-        r[k] = pass::greater(lanes[k], scores[i * 16 + k] - start[i * 16 + k]);
+        r[k] = pass::greater(lanes[k], number(i * 16 + k));
     }
     r
 }
@@ -45,26 +34,15 @@ fn of_all(lanes: &[f32; 16]) -> f32
     top
 }
 
-// The greatest score. Every lane starts with the first score: a NaN there is then the answer, as when they are met one by one.
-fn peak(scores: &[f32]) -> f32
-    requires { length scores.now ≡ 16384 }
-    ensures { Peak (table scores.now) 16384 result }
+// The greatest of the numbers at 16,384 places. Every lane starts with the first of them: a NaN there is then the answer, as when they
+// are met one by one.
+fn peak<F: Fn(usize) -> f32>(number: F) -> f32
+    requires { (s : ℕ) → s < 16384 → F.pre number s }
+    ensures { (x : ℕ → Float) → ((s : ℕ) (r : Float) → F.post number s r → r ≡ x s) → Peak x 16384 result }
 {
-    let mut lanes = [scores[0]; 16];
+    let mut lanes = [number(0); 16];
     for i in 0..1024usize {
-        lanes = more(&lanes, scores, i);
-    }
-    of_all(&lanes)
-}
-
-// The greatest gain, in the same way.
-fn peak_gain(scores: &[f32], start: &[f32]) -> f32
-    requires { (length scores.now ≡ 16384) × (length start.now ≡ 16384) }
-    ensures { Peak (gain_in scores.now start.now) 16384 result }
-{
-    let mut lanes = [scores[0] - start[0]; 16];
-    for i in 0..1024usize {
-        lanes = more_gains(&lanes, scores, start, i);
+        lanes = more(&lanes, &number, i);
     }
     of_all(&lanes)
 }
@@ -74,7 +52,7 @@ pub fn end_state(scores: &[f32]) -> usize
     requires { length scores.now ≡ 16384 }
     ensures { (result ≡ highest single (table scores.now) 16384) × (result < 16384) }
 {
-    let top = peak(scores);
+    let top = peak(|s| scores[s]);
     for s in 0..16384usize {
         if scores[s] >= top {
             return s;
@@ -89,7 +67,7 @@ pub fn top_gain(scores: &[f32], start: &[f32]) -> f32
     requires { (length scores.now ≡ 16384) × (length start.now ≡ 16384) }
     ensures { result ≡ top_in scores.now start.now }
 {
-    let top = peak_gain(scores, start);
+    let top = peak(|s| scores[s] - start[s]);
     for s in 0..16384usize {
         let gain = scores[s] - start[s];
         if gain >= top {

@@ -20,7 +20,8 @@ fn append(out: &mut [u8], at: usize, s: &[u8]) -> usize
     end
 }
 
-// A count below 100 in decimal, behind the `at` bytes that are there.
+// A count below 100 in decimal, behind the `at` bytes that are there. (By io::decimal, and below by io::hex, whose clauses say each byte in a
+// lent list; `write!` says them of a String, which would be on the heap.)
 fn append_count(out: &mut [u8], at: usize, n: u32) -> usize
     requires { (n < 100) × (at + 2 ≤ length out.old) }
     ensures end { result ≤ at + 2 }
@@ -54,7 +55,7 @@ fn line(out: &mut [u8], at: usize, n: u32) -> usize
     append(out, after_bits, b"\n")
 }
 
-// All 52 lines; the answer is how many bytes they have.
+// All 52 lines; the answer is how many bytes they have. (A loop: each line hands on where the next one begins.)
 fn lines(out: &mut [u8]) -> usize
     requires { length out.old ≡ 624 }
     ensures there { IsPrefixLen result out.new }

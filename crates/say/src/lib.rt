@@ -36,7 +36,7 @@ impl Display for Tally {
 }
 
 // The system's words for an error, without the number that std puts behind them.
-#[derive(Clone, Copy)]
+#[derive(Clone, Copy, Debug)]
 pub struct Words<'a>(pub &'a Error);
 
 impl Display for Words<'_> {
@@ -57,7 +57,7 @@ pub fn fail(mut to: Stderr, what: &[u8], error: &Error) {
 }
 
 // What was read: how many bytes, and why there are no more where a read failed.
-#[derive(Clone, Copy)]
+#[derive(Clone, Copy, Debug)]
 pub struct Filled {
     pub bytes: usize,
     pub failed: Option<Error>,
@@ -68,6 +68,7 @@ pub fn read_full<R: Read>(input: &mut R, bytes: &mut [u8]) -> Filled
     ensures { result.bytes ≤ length bytes.new }
 {
     let mut done = 0;
+    // a `while`: each read takes as many bytes as it gets, and an iterator over reads would have to end of itself
     while done < bytes.len() {
         match input.read(&mut bytes[done..]) {
             Ok(0) => break,

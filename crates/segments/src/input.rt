@@ -18,7 +18,7 @@ fn put_one(to: Stderr, board: &mut [u8], count: &mut u32, slip: &[u8], before: u
     requires { before < 2 ^ 58 }
 {
     if let Err(refused) = board::put_slip(board, count, slip) {
-        refusal::report(to, before, refused, slip.len() < 44);
+        refusal::report(to, before, refused.number(), slip.len() < 44);
     }
 }
 

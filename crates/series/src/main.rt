@@ -1,7 +1,7 @@
 // Replays fits and series of the tracker, recorded by oracle/record.rs. What is 192 + mode for a fit through the entry itself
 // (crate `by_value`) and 194 + mode through the C function; 196 + mode and 198 + mode for a series of calls of the tracker,
 // likewise. The argument has a seed in its lowest 32 bits, then the count of blocks or calls in 16; one more bit puts a timing
-// out of range.
+// out of range. Modes are numbers here, as the entries and C have them.
 #![tactic(auto)]
 
 mod draws;

@@ -16,7 +16,7 @@ ghost use Rattle.slip.specs.Slips.{fields_of, writing, written, taken, reading, 
 use util::refusal::Refusal;
 
 // What the shed computer is told of a burst: its header as read, the sample at which it starts, and its segment's number.
-#[derive(Clone, Copy)]
+#[derive(Clone, Copy, Debug, PartialEq)]
 pub struct Slip {
     pub mode: u8,
     pub kind: u8,

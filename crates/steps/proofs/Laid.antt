@@ -1,27 +1,14 @@
 -- The metrics of a header's steps, one row after another: none, and one more. Assumes nothing.
-use Prim.Native.Nat.{ℕ, ◌+◌, ◌*◌, ◌<◌, ◌≤◌}
+use Prim.Native.Nat.{ℕ, ◌+◌, ◌*◌, ◌<◌}
 use mathlib.Core.List.{List}
 use mathlib.Core.Path.{◌≡◌, ◌∙◌}
 use native.Mathlib.Nat.{not-suc-le-zero, mul-le-mul_left}
 use native.Mathlib.Omega.{arith}
 use borrow.Author.Count.{below_more}
 use lib.Ieee.{Float, nan}
-use lib.ListN.{get_or, length}
-use borrow.Rule.Slice.PartMut.{put_mid}
-use Rattle.std.proofs.Common.{rules}
-use Rattle.std.proofs.lemmas.List.{places}
+use lib.ListN.{get_or}
 use Rattle.util.specs.Table.{Stored}
 use Rattle.steps.specs.Rows.{step_metric, Row, Rows}
-
--- a row copied over its places
-pub copied : {A : Type 0} (d : A) (w base k : ℕ) (row part was : List A) → k ≡ w → part ≡ row → length row ≡ w → base + w ≤ length was
-    → Stored d w base (λ v. get_or row v d) was (put_mid base k was part)
-copied d w base k row part was e same size room =
-    rw same (record {
-      size = search (rules, places);
-      done = λ i h. search (rules, places);
-      kept = λ i h. search (rules, places);
-    })
 
 module _ (mode kind : ℕ) (terms : List Float) where
   pub rows_none : (list : List Float) → Rows mode kind terms 0 list

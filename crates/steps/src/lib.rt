@@ -8,7 +8,7 @@ ghost use Rattle.util.specs.Table.{Stored};
 ghost use Rattle.frame.specs.Format.{header_bits};
 ghost use Rattle.steps.specs.Rows.{Row, Rows};
 
-// The 32 metrics of step j: those of its slot.
+// The 32 metrics of step j: those of its slot. (Mode and kind are their numbers, as in the definition `Row`, which holds for any.)
 fn row(mode: u8, kind: u8, terms: &[f32], j: u64) -> [f32; 32]
     requires { (j < header_bits kind) × (length terms.now ≡ header_bits kind * 260) }
     ensures { Row mode kind terms.now j result }

@@ -10,6 +10,8 @@ ghost use Rattle.lse.specs.Lse.{float32, negative};
 ghost use Rattle.symbol.specs.Symbol.{erased_of, greatest_of, metric_out, bit_of, soft_bit};
 ghost use Rattle.symbol.specs.Sums.{Summed, soft_from};
 
+use std::array;
+
 // Inside: whether a symbol is mostly blanked, more than half of the (6k+1)·window samples behind it in layout k.
 pub fn erased(layout: u8, window: u32, count: u32) -> bool
     ensures { result ≡ erased_of layout window count }
@@ -33,12 +35,11 @@ pub fn put_metrics(values: &[f32; 32], out: &mut [f32], i: usize)
 {
     let most = greatest(values);
     let base = 32 * i;
-    for v in 0..32usize {
-        out[base + v] = ieee::larger(values[v] - most, -40.0);
-    }
+    let row: [f32; 32] = array::from_fn(|v| ieee::larger(values[v] - most, -40.0));
+    out[base..base + 32].copy_from_slice(&row);
 }
 
-// Bit k of a value, or of its Gray code.
+// Bit k of a value, or of its Gray code: a flag, since the definitions `bit_of` and `Summed` are by it.
 fn bit(gray: bool, k: u64, v: u64) -> u64
     requires { k < 64 }
     ensures { result ≡ bit_of gray k v }
@@ -103,7 +104,6 @@ pub fn put_bits(values: &[f32], slots: &mut [f32], i: usize)
 {
     let base = 5 * i;
     let sums = log_sums(values, 0, true);
-    for k in 0..5usize {
-        slots[base + k] = soft_bit(&sums, k);
-    }
+    let row: [f32; 5] = array::from_fn(|k| soft_bit(&sums, k));
+    slots[base..base + 5].copy_from_slice(&row);
 }

@@ -1,4 +1,5 @@
 // Replays the answers that oracle/record.rs has recorded, against the proved parts; the records' shape is crate `records`.
+// Modes and kinds are numbers here: a record asks for any, also for one that an entry refuses.
 #![tactic(auto)]
 
 ghost use Rattle.std.specs.Prelude.{◌+◌, ◌≤◌, length};

@@ -28,7 +28,7 @@ fn raise(mode: u8, seed: u64, values: &[u8], terms: &mut [f32]) {
 }
 
 // A header as read: 0 or the refusal's number, and the five places.
-#[derive(Clone, Copy)]
+#[derive(Clone, Copy, Debug, PartialEq)]
 pub struct Answer {
     number: u32,
     word: u64,

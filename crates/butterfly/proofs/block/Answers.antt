@@ -1,5 +1,4 @@
--- `butterfly::block` meets its contract. The invariant: of the block's states those passed are done, whatever metrics the rows are of
--- (`Begun`), and their decisions stand in the word. The measure is what is left of the 16 butterflies. Assumes nothing.
+-- `butterfly::block` meets its contract. Assumes nothing.
 use Prim.Native.Nat.{ℕ, suc, ◌+◌, ◌*◌, ◌^◌, ◌≤◌, ◌<◌}
 use mathlib.Core.Path.{◌≡◌, refl, ap, ◌∙◌}
 use native.Mathlib.Nat.{lt_irrefl, pow-succ'}

@@ -1,5 +1,5 @@
--- `butterfly::block` meets its contract. The invariant: of the block's states those passed are done, whatever metrics the rows are of
--- (`Begun`), and their decisions stand in the word. The measure is what is left of the 16 butterflies. Assumes nothing.
+-- The loop's invariant: of the block's states those passed are done, whatever metrics the rows are of (`Begun`), and
+-- their decisions stand in the word. The measure is what is left of the 16 butterflies. Assumes nothing.
 use Prim.Native.Nat.{ℕ, ◌+◌, ◌*◌, ◌-◌, ◌^◌, ◌≤◌, ◌<◌}
 use mathlib.Core.List.{List}
 use mathlib.Core.Path.{◌≡◌}

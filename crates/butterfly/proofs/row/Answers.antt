@@ -1,5 +1,4 @@
--- `butterfly::row` meets its contract. The invariant: the places passed hold their metrics. The measure is what is left of the 16.
--- Assumes nothing.
+-- `butterfly::row` meets its contract. Assumes nothing.
 use Prim.Native.Nat.{ℕ, ◌+◌, ◌*◌, ◌<◌}
 use mathlib.Core.Path.{sym, ap, subst}
 use native.Mathlib.Omega.{arith}

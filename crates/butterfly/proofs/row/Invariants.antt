@@ -1,5 +1,4 @@
--- `butterfly::row` meets its contract. The invariant: the places passed hold their metrics. The measure is what is left of the 16.
--- Assumes nothing.
+-- The loop's invariant: the places passed hold their metrics. The measure is what is left of the 16. Assumes nothing.
 use Prim.Native.Nat.{◌+◌, ◌*◌, ◌-◌, ◌≤◌}
 use lib.Bits.{bit_xor}
 use lib.Ieee.{nan}

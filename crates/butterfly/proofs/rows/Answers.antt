@@ -1,5 +1,4 @@
--- `butterfly::rows` meets its contract. The invariant: the rows passed hold their metrics. The measure is what is left of the 32.
--- Assumes nothing.
+-- `butterfly::rows` meets its contract. Assumes nothing.
 use Prim.Native.Nat.{ℕ, ◌+◌, ◌*◌}
 use mathlib.Core.Path.{sym, ◌∙◌}
 use native.Mathlib.Omega.{arith}

@@ -1,5 +1,4 @@
--- `candidates::pick` meets its contract. The invariant: the states passed are considered. The measure is what is left of them.
--- Assumes nothing.
+-- `candidates::pick` meets its contract. Assumes nothing.
 use mathlib.Core.Option.{Option}
 use mathlib.Core.Path.{refl, ap, ◌∙◌}
 use native.Mathlib.Numerals.{add-one}

@@ -1,5 +1,4 @@
--- `candidates::pick` meets its contract. The invariant: the states passed are considered. The measure is what is left of them.
--- Assumes nothing.
+-- The loop's invariant: the states passed are considered. The measure is what is left of them. Assumes nothing.
 use Prim.Native.Nat.{ℕ, ◌-◌, ◌≤◌}
 use mathlib.Core.List.{List}
 use mathlib.Core.Path.{◌≡◌}

@@ -1,5 +1,4 @@
--- `conv::encode` meets its contract. The invariant: the state is the walk's after j steps, and the labels of the first j are placed.
--- The measure is what is left of the length. Assumes nothing.
+-- `conv::encode` meets its contract. Assumes nothing.
 use Prim.Native.Nat.{ℕ, ◌+◌, ◌%◌, ◌<◌}
 use mathlib.Core.Bool.{false}
 use mathlib.Core.List.{List}

@@ -1,5 +1,5 @@
--- `conv::encode` meets its contract. The invariant: the state is the walk's after j steps, and the labels of the first j are placed.
--- The measure is what is left of the length. Assumes nothing.
+-- The loop's invariant: the state is the walk's after j steps, and the labels of the first j are placed. The measure is
+-- what is left of the length. Assumes nothing.
 use Prim.Native.Nat.{ℕ, ◌-◌, ◌≤◌}
 use mathlib.Core.List.{List}
 use mathlib.Core.Path.{◌≡◌}

@@ -1,5 +1,4 @@
--- `forms::all_bits` meets its contract. The invariant: the soft bits of the symbols passed are stored. The measure is what is left of them.
--- Assumes nothing.
+-- `forms::all_bits` meets its contract. Assumes nothing.
 use Prim.Native.Nat.{ℕ}
 use mathlib.Core.Bool.{true}
 use mathlib.Core.Path.{sym, ◌∙◌}

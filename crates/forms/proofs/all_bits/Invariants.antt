@@ -1,5 +1,5 @@
--- `forms::all_bits` meets its contract. The invariant: the soft bits of the symbols passed are stored. The measure is what is left of them.
--- Assumes nothing.
+-- The loop's invariant: the soft bits of the symbols passed are stored. The measure is what is left of them. Assumes
+-- nothing.
 use Prim.Native.Nat.{ℕ, ◌*◌, ◌-◌, ◌≤◌, ◌<◌}
 use mathlib.Core.Bool.{true}
 use mathlib.Core.Path.{◌≡◌}

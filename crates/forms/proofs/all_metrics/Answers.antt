@@ -1,5 +1,4 @@
--- `forms::all_metrics` meets its contract. The invariant: the metrics of the symbols passed are stored. The measure is what is left of them.
--- Assumes nothing.
+-- `forms::all_metrics` meets its contract. Assumes nothing.
 use Prim.Native.Nat.{ℕ, ◌*◌}
 use mathlib.Core.Path.{sym, ◌∙◌}
 use native.Mathlib.Omega.{arith}

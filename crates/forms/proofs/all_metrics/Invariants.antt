@@ -1,5 +1,5 @@
--- `forms::all_metrics` meets its contract. The invariant: the metrics of the symbols passed are stored. The measure is what is left of them.
--- Assumes nothing.
+-- The loop's invariant: the metrics of the symbols passed are stored. The measure is what is left of them. Assumes
+-- nothing.
 use Prim.Native.Nat.{ℕ, ◌*◌, ◌-◌, ◌≤◌, ◌<◌}
 use mathlib.Core.Path.{◌≡◌}
 use lib.Ieee.{nan}

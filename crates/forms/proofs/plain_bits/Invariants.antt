@@ -1,5 +1,5 @@
--- `forms::plain_bits` meets its contract. The invariant: the soft bits passed are stored, and inside a symbol its log-sums are there.
--- The measure is what is left of the bits. Assumes nothing.
+-- The loop's invariant: the soft bits passed are stored, and inside a symbol its log-sums are there. The measure is
+-- what is left of the bits. Assumes nothing.
 use Prim.Native.Nat.{ℕ, ◌+◌, ◌*◌, ◌-◌, ◌/◌, ◌%◌, ◌≤◌, ◌<◌}
 use mathlib.Core.Bool.{false}
 use mathlib.Core.List.{List}

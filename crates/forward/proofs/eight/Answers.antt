@@ -4,7 +4,7 @@ use lib.Bits.{bit_and}
 use lib.Dec.{eqb}
 use lib.ListN.{get_or}
 use Rattle.util.specs.Choose.{choose}
-use Rattle.labels.proofs.Made.{made}
+use Rattle.util.proofs.Made.{made}
 use Rattle.forward.proofs.eight.Goals as goal
 
 pub returns : goal.returns

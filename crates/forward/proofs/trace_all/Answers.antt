@@ -1,5 +1,4 @@
--- `forward::trace_all` meets its contract. The invariant: an even number of steps is followed, and `starts` has the start states. The
--- measure is what is left of the steps. Assumes nothing.
+-- `forward::trace_all` meets its contract. Assumes nothing.
 use Prim.Native.Nat.{◌+◌}
 use mathlib.Core.Path.{◌≡◌, refl}
 use native.Mathlib.Omega.{arith}

@@ -1,5 +1,5 @@
--- `forward::trace_all` meets its contract. The invariant: an even number of steps is followed, and `starts` has the start states. The
--- measure is what is left of the steps. Assumes nothing.
+-- The loop's invariant: an even number of steps is followed, and `starts` has the start states. The measure is what is
+-- left of the steps. Assumes nothing.
 use Prim.Native.Nat.{◌-◌, ◌%◌, ◌≤◌}
 use mathlib.Core.Path.{◌≡◌}
 use lib.ListN.{length}

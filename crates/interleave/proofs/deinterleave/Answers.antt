@@ -1,5 +1,4 @@
--- `interleave::deinterleave` meets its contract. The invariant: the bits passed are back in their places.
--- The measure is what is left of them. Assumes nothing.
+-- `interleave::deinterleave` meets its contract. Assumes nothing.
 use Prim.Native.Nat.{ℕ, ◌*◌, ◌%◌}
 use mathlib.Core.Path.{◌≡◌, ap, ◌∙◌}
 use native.Mathlib.Omega.{arith}

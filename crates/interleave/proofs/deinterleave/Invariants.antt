@@ -1,6 +1,5 @@
--- `interleave::deinterleave` meets its contract. The invariant: the bits passed are back in their places.
--- The measure is what is left of them. Assumes nothing.
-use Prim.Native.Nat.{ℕ, ◌-◌, ◌≤◌, ◌<◌}
+-- The loop's invariant: the bits passed are back in their places. Assumes nothing.
+use Prim.Native.Nat.{ℕ, ◌≤◌, ◌<◌}
 use mathlib.Core.Path.{◌≡◌}
 use lib.Ieee.{nan}
 use lib.ListN.{length, get_or}
@@ -10,6 +9,3 @@ use Rattle.interleave.proofs.deinterleave.Given as goal
 abbrev pub invariant-loop-p : goal.invariant-loop-p
 invariant-loop-p l = (l.p ≤ length l.initial.out) × (length l.out ≡ length l.initial.out)
     × ((k : ℕ) → k < l.p → get_or l.out k nan ≡ bit_back l.n (λ s. get_or l.slots s nan) k)
-
-abbrev pub decreases-loop-p : goal.decreases-loop-p
-decreases-loop-p l = length l.initial.out - l.p

@@ -1,5 +1,4 @@
--- `interleave::deinterleave_sym` meets its contract. The invariant: the symbols passed are back in their places.
--- The measure is what is left of them. Assumes nothing.
+-- `interleave::deinterleave_sym` meets its contract. Assumes nothing.
 use Prim.Native.Nat.{ℕ, ◌+◌, ◌*◌, ◌%◌}
 use mathlib.Core.Path.{sym, ap₂, ◌∙◌}
 use native.Mathlib.Omega.{arith}

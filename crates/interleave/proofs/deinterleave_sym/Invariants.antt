@@ -1,5 +1,5 @@
--- `interleave::deinterleave_sym` meets its contract. The invariant: the symbols passed are back in their places.
--- The measure is what is left of them. Assumes nothing.
+-- The loop's invariant: the symbols passed are back in their places. The measure is what is left of them. Assumes
+-- nothing.
 use Prim.Native.Nat.{ℕ, ◌+◌, ◌-◌, ◌*◌, ◌≤◌, ◌<◌}
 use mathlib.Core.Path.{◌≡◌}
 use lib.Ieee.{nan}

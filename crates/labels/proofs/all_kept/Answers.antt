@@ -1,5 +1,4 @@
--- `labels::all_kept` meets its contract. The invariant: kept says whether the entries below `half`, a power of two, keep to the rule. The
--- measure is what is left of them. Assumes nothing.
+-- `labels::all_kept` meets its contract. Assumes nothing.
 use Prim.Native.Nat.{ℕ, suc, ◌+◌, ◌*◌}
 use mathlib.Core.Path.{◌≡◌, ap, ◌∙◌}
 use native.Mathlib.Omega.{arith}

@@ -1,5 +1,5 @@
--- `labels::all_kept` meets its contract. The invariant: kept says whether the entries below `half`, a power of two, keep to the rule. The
--- measure is what is left of them. Assumes nothing.
+-- The loop's invariant: kept says whether the entries below `half`, a power of two, keep to the rule. The measure is
+-- what is left of them. Assumes nothing.
 use Prim.Native.Nat.{ℕ, ◌-◌}
 use mathlib.Core.Path.{◌≡◌}
 use Rattle.util.specs.Every.{every}

@@ -1,5 +1,4 @@
--- `labels::fill` meets its contract. The invariant: the entries below `half`, a power of two, are labels. The measure is what is left of
--- them. Assumes nothing.
+-- `labels::fill` meets its contract. Assumes nothing.
 use Prim.Native.Nat.{suc}
 use mathlib.Core.Path.{◌≡◌, ◌∙◌}
 use native.Mathlib.Omega.{arith}

@@ -1,5 +1,5 @@
--- `labels::fill` meets its contract. The invariant: the entries below `half`, a power of two, are labels. The measure is what is left of
--- them. Assumes nothing.
+-- The loop's invariant: the entries below `half`, a power of two, are labels. The measure is what is left of them.
+-- Assumes nothing.
 use Prim.Native.Nat.{ℕ, ◌-◌}
 use mathlib.Core.Path.{◌≡◌}
 use lib.ListN.{length}

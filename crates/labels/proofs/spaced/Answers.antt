@@ -1,7 +1,7 @@
 -- `labels::spaced` meets its contract: each place was made by a call at that place. Assumes nothing.
 use Rattle.std.proofs.Common.{rules, ◌≡◌, ℕ, ◌*◌}
 use Rattle.conv.specs.Label.{label_of}
-use Rattle.labels.proofs.Made.{made}
+use Rattle.util.proofs.Made.{made}
 use Rattle.labels.proofs.spaced.Goals as goal
 
 pub returns : goal.returns

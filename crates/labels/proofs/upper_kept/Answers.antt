@@ -1,5 +1,4 @@
--- `labels::upper_kept` meets its contract. The invariant: kept says whether the entries below `half` + i keep to the rule. The
--- measure is what is left of them. Assumes nothing.
+-- `labels::upper_kept` meets its contract. Assumes nothing.
 use mathlib.Core.Path.{◌∙◌}
 use native.Mathlib.Omega.{arith}
 use Rattle.labels.proofs.Kept.{kept-further}

@@ -1,4 +1,4 @@
--- `level::count` meets its contract. The invariant: the count of the bins passed, by any test that the calls compute. Assumes nothing.
+-- `level::count` meets its contract. Assumes nothing.
 use Prim.Native.Nat.{◌+◌}
 use Rattle.level.proofs.Turns.{counted-more}
 use Rattle.level.specs.Rank.{once, count_of}
@@ -17,9 +17,9 @@ pub loop-b-preserved : goal.loop-b-preserved
 loop-b-preserved g c =
     let a = c.args in
     let b = c.loop-b.b in
-    let here : Bool = eqb (get_or a.marks.now (a.base + b) 0) 1 in (
+    let here : Bool = eqb (get_or a.bins.now.marks.now (a.bins.now.base + b) 0) 1 in (
       omega arith,
       omega (arith, c.counted-n.ensures.small),
-      λ test k. counted-more test a.marks.now a.row.now a.base b _ _ (c.loop-b.invariant.2 test k)
+      λ test k. counted-more test a.bins.now.marks.now a.bins.now.values.now a.bins.now.base b _ _ (c.loop-b.invariant.2 test k)
           (c.counted-n.ensures.answer ∙ ap (λ (t : Bool). once (here && t)) (k _ _ c.passes.ensures)),
     )

@@ -1,8 +1,10 @@
--- `level::marks` meets its contract. The invariant: the bins passed have their marks, the others are 1. The measure is what is
--- left of the 52. Assumes nothing.
-use Rattle.level.proofs.Turns.{passed_none}
-use native.Mathlib.Omega.{arith}
+-- `level::marks` meets its contract: each bin's mark was made by a call at that bin. Assumes nothing.
+use Rattle.std.proofs.Common.{rules, ◌≡◌, ℕ}
+use Rattle.level.specs.Inside.{mark_of}
+use Rattle.util.proofs.Made.{made}
 use Rattle.level.proofs.marks.Goals as goal
 
-pub loop-b-init : goal.loop-b-init
-loop-b-init c = (omega arith, passed_none 0 1 _)
+pub returns : goal.returns
+returns c =
+    let has : ℕ → ℕ = λ b. mark_of c.args.e b in
+    (c.from_fn.ensures.items.long, λ b h. made _ _ (λ (k y : ℕ). y ≡ has k) _ (λ k y q l e. search rules) c.from_fn.ensures.items b 0 h)

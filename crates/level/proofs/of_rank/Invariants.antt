@@ -1,5 +1,5 @@
--- `level::of_rank` meets its contract. The invariant: none of the bins passed has the rank, and the fences hold. The measure is what is left
--- of the bins. Assumes nothing.
+-- The loop's invariant: none of the bins passed has the rank, and the fences hold. The measure is what is left of the
+-- bins. Assumes nothing.
 use Prim.Native.Nat.{◌-◌, ◌≤◌}
 use Rattle.level.specs.Inside.{held_at, Fenced}
 use Rattle.level.specs.Rank.{ranks, first_that}
@@ -8,7 +8,7 @@ use mathlib.Core.Path.{◌≡◌}
 use Rattle.level.proofs.of_rank.Given as goal
 
 abbrev pub invariant-loop-b : goal.invariant-loop-b
-invariant-loop-b l = (l.b ≤ l.read) × (first_that (ranks (held_at l.marks l.row l.base) l.read l.k) (held_at l.marks l.row l.base) l.b ≡ none) × Fenced (held_at l.marks l.row l.base) l.read l.k l.low l.high
+invariant-loop-b l = (l.b ≤ l.bins.read) × (first_that (ranks (held_at l.bins.marks.now l.bins.values.now l.bins.base) l.bins.read l.k) (held_at l.bins.marks.now l.bins.values.now l.bins.base) l.b ≡ none) × Fenced (held_at l.bins.marks.now l.bins.values.now l.bins.base) l.bins.read l.k l.low l.high
 
 abbrev pub decreases-loop-b : goal.decreases-loop-b
-decreases-loop-b l = l.read - l.b
+decreases-loop-b l = l.bins.read - l.b

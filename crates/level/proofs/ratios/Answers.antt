@@ -1,19 +1,13 @@
--- `level::ratios` meets its contract. The invariant: the bins passed are divided. The measure is what is left of the 52.
--- Assumes nothing.
+-- `level::ratios` meets its contract: each bin was divided by a call at that bin. Assumes nothing.
+use Rattle.std.proofs.Common.{rules, ◌≡◌, ℕ}
+use lib.Ieee.{Float, nan}
 use Rattle.level.specs.Row.{ratio_of}
-use Rattle.util.proofs.Fill.{up_done}
-use lib.Ieee.{nan}
-use lib.ListN.{length-set}
-use mathlib.Core.Path.{refl, ◌∙◌}
-use native.Mathlib.Omega.{arith}
+use Rattle.util.proofs.Made.{made}
 use Rattle.level.proofs.ratios.Goals as goal
 
-pub loop-b-preserved : goal.loop-b-preserved
+pub returns : goal.returns
 unfolding ratio_of
-loop-b-preserved c =
+returns c =
     let a = c.args in
-    let b = c.loop-b.b in (
-      omega arith,
-      length-set c.loop-b.out b _ ∙ c.loop-b.invariant.1,
-      up_done c.loop-b.out b _ nan (ratio_of a.energies.now a.noise.now a.i) (omega arith) refl c.loop-b.invariant.2,
-    )
+    let has : ℕ → Float = λ b. ratio_of a.energies.now a.noise.now a.i b in
+    (c.from_fn.ensures.items.long, λ b h. made _ _ (λ (k : ℕ) (y : Float). y ≡ has k) _ (λ k y q l e. search rules) c.from_fn.ensures.items b nan h)

@@ -1,5 +1,4 @@
--- `level::strongest` meets its contract. The invariant: the strongest of the values passed, by its place in the row. The measure
--- is what is left of the 32. Assumes nothing.
+-- `level::strongest` meets its contract. Assumes nothing.
 use Prim.Native.Nat.{ℕ, ◌+◌, ◌-◌, ◌<◌}
 use Rattle.frame.specs.Air.{bin_of, place_of}
 use Rattle.level.proofs.Turns.{strongest-new, strongest-kept}

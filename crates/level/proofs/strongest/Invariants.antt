@@ -1,5 +1,5 @@
--- `level::strongest` meets its contract. The invariant: the strongest of the values passed, by its place in the row. The measure
--- is what is left of the 32. Assumes nothing.
+-- The loop's invariant: the strongest of the values passed, by its place in the row. The measure is what is left of the
+-- 32. Assumes nothing.
 use Prim.Native.Nat.{◌-◌, ◌≤◌, ◌<◌}
 use Rattle.frame.specs.Air.{bin_of, place_of}
 use Rattle.level.specs.Row.{strongest_to}

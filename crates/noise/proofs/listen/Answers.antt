@@ -4,10 +4,13 @@ use Rattle.frame.proofs.Air.{some-bins, hop-below}
 use Rattle.frame.specs.Air.{hop_of}
 use Rattle.frame.specs.Format.{format_of}
 use Rattle.noise.proofs.Shown.{numbered-in, numbered-out, held-is}
+use lib.Ieee.{Float}
+use Rattle.nearby.specs.Inside.{Nearby}
 use Rattle.noise.specs.Inside.{numbered}
 use Rattle.noise.specs.Local.{burst, held}
 use mathlib.Core.Logic.{inr}
-use mathlib.Core.Path.{◌≡◌, ap, ◌∙◌}
+use mathlib.Core.List.{List}
+use mathlib.Core.Path.{◌≡◌, sym, ap, ◌∙◌, subst}
 use native.Mathlib.Omega.{arith}
 use Rattle.noise.proofs.listen.Goals as goal
 
@@ -22,8 +25,6 @@ hear-requires c =
       omega (arith, c.bins.ensures, c.hop-h.ensures, h),
       omega (arith, pre.0.energies-long),
       pre.0.noise-long,
-      pre.2.marks-long,
-      pre.2.values-long,
     )
 
 pub returns-then-t-rows : goal.returns-then-t-rows
@@ -42,4 +43,6 @@ pub returns-else-t-rows : goal.returns-else-t-rows
 returns-else-t-rows c =
     let a = c.args in
     let heard = burst a.mode a.kind a.rows a.energies.now a.noise.now in
-    (c.pass_over.ensures a.values.now).on (numbered heard) (λ b l. numbered-out heard b (a.t + 25) (inr (omega arith))) c.requires.2
+    let passed = c.pass_over.ensures in
+    let on = (passed.moved a.last.now.values).on (numbered heard) (λ b l. numbered-out heard b (a.t + 25) (inr (omega arith))) c.requires.2 in
+    subst (λ (values : List Float). Nearby (numbered heard) (a.t + 1) c.pass_over.new.self.marks values) (sym passed.kept) on

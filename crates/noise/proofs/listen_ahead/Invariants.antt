@@ -9,7 +9,7 @@ use Rattle.noise.specs.Local.{burst}
 use Rattle.noise.proofs.listen_ahead.Given as goal
 
 abbrev pub invariant-loop-t : goal.invariant-loop-t
-invariant-loop-t l = (l.t ≤ 12) × Nearby (numbered (burst l.mode l.kind l.rows l.energies l.noise)) l.t l.marks l.values
+invariant-loop-t l = (l.t ≤ 12) × Nearby (numbered (burst l.mode l.kind l.rows l.energies l.noise)) l.t l.last.marks l.last.values
 
 abbrev pub decreases-loop-t : goal.decreases-loop-t
 decreases-loop-t l = 12 - l.t

@@ -1,5 +1,4 @@
--- `noise::make` meets its contract. The invariant: the 25 places hold the rows to i + 11, and the rows of factors before row i are made.
--- The measure is what is left of the rows. Assumes nothing.
+-- `noise::make` meets its contract. Assumes nothing.
 use Prim.Native.Nat.{ℕ, ◌+◌, ◌*◌}
 use Rattle.noise.specs.Local.{burst, factor_at, factors_of}
 use Rattle.util.specs.Table.{rows}
@@ -7,7 +6,10 @@ use lib.Ieee.{nan, of_bits}
 use Rattle.util.proofs.Fill.{tabled-only}
 use Rattle.noise.proofs.Shown.{numbered-as, begun}
 use Rattle.noise.proofs.Bins.{rows_made}
-use mathlib.Core.Path.{◌≡◌, ap, ◌∙◌}
+use mathlib.Core.Path.{◌≡◌, ap, ◌∙◌, subst⁻¹}
+use Rattle.nearby.specs.declared.LastRows.{LastRows}
+use Rattle.nearby.specs.Inside.{Nearby}
+use Rattle.noise.specs.Inside.{numbered}
 use native.Mathlib.Omega.{arith}
 use Rattle.noise.proofs.make.Goals as goal
 
@@ -15,7 +17,8 @@ pub listen_ahead-requires : goal.listen_ahead-requires
 unfolding of_bits
 listen_ahead-requires c =
     let a = c.args in
-    (c.requires.0, begun (burst a.mode a.kind a.rows a.energies.now a.noise.now))
+    let heard = numbered (burst a.mode a.kind a.rows a.energies.now a.noise.now) in
+    (c.requires.0, subst⁻¹ (λ (last : LastRows). Nearby heard 0 last.marks last.values) c.none-last.ensures (begun (burst a.mode a.kind a.rows a.energies.now a.noise.now)))
 
 pub loop-i-preserved : goal.loop-i-preserved
 unfolding of_bits

@@ -14,9 +14,9 @@ row-factors_of-requires c =
     let counted = c.counts-counts.ensures [] in (
       c.sums-sums.ensures.size,
       counted.size,
-      pre.4,
-      pre.5,
-      counted-few a.marks.now [] (a.i + 13) 25 _ counted,
+      pre.2,
+      pre.3,
+      counted-few a.last.now.marks [] (a.i + 13) 25 _ counted,
     )
 
 pub returns : goal.returns
@@ -33,8 +33,8 @@ returns c =
       stored = record {
         size = put.stored.size;
         done = λ b h. put.stored.done b h
-            ∙ factors-are a g.i g.marks.now g.values.now g.read g.less ready c.sums-sums.result g.errors.now c.row-factors_of.result
-            c.counts-counts.result g.empty c.level-level.result pre.4 sums (counts g.values.now) errors level row b h;
+            ∙ factors-are a g.i g.last.now.marks g.last.now.values g.read g.less ready c.sums-sums.result g.errors.now c.row-factors_of.result
+            c.counts-counts.result g.empty c.level-level.result pre.2 sums (counts g.last.now.values) errors level row b h;
         kept = put.stored.kept;
       };
       after = put.after;

@@ -1,5 +1,4 @@
--- `noise::row` meets its contract. The invariant: the bins passed have their factors, the others are 1. The measure is what is left
--- of the bins that are read. Assumes nothing.
+-- `noise::row` meets its contract. Assumes nothing.
 use Rattle.level.proofs.Turns.{passed_none, passed-more}
 use Rattle.level.specs.Level.{one}
 use lib.Ieee.{nan, of_bits}

@@ -1,5 +1,5 @@
--- `noise::row` meets its contract. The invariant: the bins passed have their factors, the others are 1. The measure is what is left
--- of the bins that are read. Assumes nothing.
+-- The loop's invariant: the bins passed have their factors, the others are 1. The measure is what is left of the bins
+-- that are read. Assumes nothing.
 use Prim.Native.Nat.{◌-◌, ◌≤◌}
 use Rattle.level.proofs.Turns.{Passed}
 use Rattle.level.specs.Level.{one}

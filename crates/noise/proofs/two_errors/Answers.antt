@@ -1,22 +1,18 @@
--- `noise::two_errors` meets its contract. The invariant: the counts passed have theirs. The measure is what is left of the 25.
--- Assumes nothing.
+-- `noise::two_errors` meets its contract: each count's error was made by a call at that count. Assumes nothing.
+use Rattle.std.proofs.Common.{rules, ◌≡◌, ℕ, ◌≤◌, ap, arith}
 use Rattle.root_table.proofs.Entries.{entry}
-use Rattle.noise.proofs.Bins.{errors-more}
 use Rattle.noise.specs.Local.{two, two_errors}
-use lib.Ieee.{binary32, div, of_bits}
-use lib.ListN.{length-set}
-use mathlib.Core.Path.{ap, ◌∙◌}
-use native.Mathlib.Omega.{arith}
+use lib.Ieee.{Float, nan, binary32, div, of_bits}
+use Rattle.util.proofs.Made.{made}
 use Rattle.noise.proofs.two_errors.Goals as goal
 
-pub loop-c-preserved : goal.loop-c-preserved
+pub returns : goal.returns
 unfolding two_errors of_bits
-loop-c-preserved c =
-    let n = c.loop-c.c in
-    let roots = c.roots-roots in (
-      omega arith,
-      omega arith,
-      length-set c.loop-c.out n _ ∙ c.loop-c.invariant.2,
-      errors-more c.loop-c.out n _ (omega arith) (ap (div binary32 two) (entry roots.result n roots.ensures.worked_out (omega arith) (omega arith)))
-          c.loop-c.invariant.3,
-    )
+returns c =
+    let roots = c.roots-roots in
+    record {
+      size = c.from_fn.ensures.items.long;
+      each = λ n l h. made _ _ (λ (k : ℕ) (y : Float). 1 ≤ k → y ≡ two_errors k) _
+          (λ k y q l e. (λ p. let here = ap (div binary32 two) (entry roots.result k roots.ensures.worked_out p (omega arith)) in search (rules, here), search rules))
+          c.from_fn.ensures.items n nan (omega arith) l;
+    }

@@ -1,4 +1,4 @@
--- `pass::end_state` meets its contract. The invariant: the lowest of the greatest among the states passed. Assumes nothing.
+-- `pass::end_state` meets its contract. Assumes nothing.
 use Prim.Native.Nat.{ℕ, ◌+◌}
 use mathlib.Core.Bool.{true, false}
 use mathlib.Core.Path.{◌≡◌, refl, ◌∙◌}

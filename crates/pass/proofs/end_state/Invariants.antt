@@ -1,4 +1,4 @@
--- `pass::end_state` meets its contract. The invariant: the lowest of the greatest among the states passed. Assumes nothing.
+-- The loop's invariant: the lowest of the greatest among the states passed. Assumes nothing.
 use Prim.Native.Nat.{◌≤◌, ◌<◌}
 use mathlib.Core.Path.{◌≡◌}
 use Rattle.pass.specs.Areas.{table}

@@ -1,5 +1,4 @@
--- `pass::pass` meets its contract. The invariant: an even number of steps has run, the areas taking turns (`Turned`). The measure is what
--- is left of them. Assumes nothing.
+-- `pass::pass` meets its contract. Assumes nothing.
 use Prim.Native.Nat.{ℕ, ◌+◌}
 use mathlib.Core.Path.{◌≡◌, refl, subst}
 use native.Mathlib.Omega.{arith}

@@ -1,5 +1,5 @@
--- `pass::pass` meets its contract. The invariant: an even number of steps has run, the areas taking turns (`Turned`). The measure is what
--- is left of them. Assumes nothing.
+-- The loop's invariant: an even number of steps has run, the areas taking turns (`Turned`). The measure is what is left
+-- of them. Assumes nothing.
 use Prim.Native.Nat.{◌-◌, ◌%◌, ◌≤◌}
 use mathlib.Core.Path.{◌≡◌}
 use Rattle.pass.specs.Areas.{table, steps_in, Turned}

@@ -1,5 +1,5 @@
--- `pass::states` meets its contract. The invariant: from state k of the word on the scores and the decisions are done, the scores below
--- are as they were, and the row holds the labels of the lower registers. Assumes nothing.
+-- The loop's invariant: from state k of the word on the scores and the decisions are done, the scores below are as they
+-- were, and the row holds the labels of the lower registers. Assumes nothing.
 use Prim.Native.Nat.{ℕ, ◌+◌, ◌*◌, ◌-◌, ◌^◌, ◌≤◌, ◌<◌}
 use mathlib.Core.Path.{◌≡◌}
 use lib.ListN.{length}

@@ -1,4 +1,4 @@
--- `pass::top_gain` meets its contract. The invariant: the greatest gain among the states passed. Assumes nothing.
+-- `pass::top_gain` meets its contract. Assumes nothing.
 use Prim.Native.Nat.{ℕ, ◌+◌}
 use mathlib.Core.Bool.{Bool, true, false}
 use mathlib.Core.Path.{◌≡◌, refl, ap, ◌∙◌}

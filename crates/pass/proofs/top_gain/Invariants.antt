@@ -1,4 +1,4 @@
--- `pass::top_gain` meets its contract. The invariant: the greatest gain among the states passed. Assumes nothing.
+-- The loop's invariant: the greatest gain among the states passed. Assumes nothing.
 use Prim.Native.Nat.{◌≤◌}
 use mathlib.Core.Path.{◌≡◌}
 use Rattle.trellis.specs.Numbers.{single}

@@ -1,5 +1,5 @@
--- `peak::end_state` meets its contract. The invariant: no score passed reaches the greatest. The measure is what is left of the states.
--- Assumes nothing.
+-- The loop's invariant: no score passed reaches the greatest. The measure is what is left of the states. Assumes
+-- nothing.
 use Prim.Native.Nat.{ℕ, ◌-◌, ◌<◌, ◌≤◌}
 use mathlib.Core.Bool.{false}
 use mathlib.Core.Path.{◌≡◌}

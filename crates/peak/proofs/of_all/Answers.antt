@@ -1,5 +1,4 @@
--- `peak::of_all` meets its contract. The invariant: the greatest of the lanes passed. The measure is what is left of the sixteen.
--- Assumes nothing.
+-- `peak::of_all` meets its contract. Assumes nothing.
 use mathlib.Core.Path.{refl, ◌∙◌}
 use native.Mathlib.Omega.{arith}
 use Rattle.pass.specs.Areas.{table}

@@ -1,5 +1,4 @@
--- `peak::of_all` meets its contract. The invariant: the greatest of the lanes passed. The measure is what is left of the sixteen.
--- Assumes nothing.
+-- The loop's invariant: the greatest of the lanes passed. The measure is what is left of the sixteen. Assumes nothing.
 use Prim.Native.Nat.{◌-◌, ◌≤◌}
 use mathlib.Core.Path.{◌≡◌}
 use Rattle.pass.specs.Areas.{table}

@@ -1,5 +1,4 @@
--- `root::whole_root` meets its contract. The invariant: the digits still to come, from what is set so far, give the root; and what is set, with
--- all of them, stays within 2^24, so that no square overflows. Assumes nothing.
+-- `root::whole_root` meets its contract. Assumes nothing.
 use Prim.Native.Nat.{ℕ, ◌+◌, ◌-◌, ◌/◌, ◌<◌}
 use mathlib.Core.Path.{◌≡◌, refl, sym, ap₂, ◌∙◌}
 use native.Mathlib.Omega.{arith}

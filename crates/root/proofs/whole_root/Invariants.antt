@@ -1,5 +1,5 @@
--- `root::whole_root` meets its contract. The invariant: the digits still to come, from what is set so far, give the root; and what is set, with
--- all of them, stays within 2^24, so that no square overflows. Assumes nothing.
+-- The loop's invariant: the digits still to come, from what is set so far, give the root; and what is set, with all of
+-- them, stays within 2^24, so that no square overflows. Assumes nothing.
 use Prim.Native.Nat.{◌+◌, ◌-◌, ◌*◌, ◌^◌, ◌≤◌}
 use mathlib.Core.Path.{◌≡◌}
 use Rattle.root.specs.Root.{digits, whole_root}

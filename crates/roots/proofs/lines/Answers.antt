@@ -1,4 +1,4 @@
--- `roots::lines` meets its contract. The invariant: the lines before that of n are there. The measure is what is left of the 52. Assumes nothing.
+-- `roots::lines` meets its contract. Assumes nothing.
 use Prim.Native.Nat.{ℕ, ◌+◌, ◌-◌}
 use mathlib.Core.List.{List, ◌++◌}
 use mathlib.Core.Path.{◌≡◌, refl, sym, ap, ◌∙◌}

@@ -1,4 +1,4 @@
--- `roots::lines` meets its contract. The invariant: the lines before that of n are there. The measure is what is left of the 52. Assumes nothing.
+-- The loop's invariant: the lines before that of n are there. The measure is what is left of the 52. Assumes nothing.
 use Prim.Native.Nat.{◌*◌, ◌-◌, ◌≤◌}
 use mathlib.Core.Path.{◌≡◌}
 use lib.ListN.{length, take}

@@ -1,5 +1,4 @@
--- `search::search` meets its contract. The invariant: pass k, counted from 0, is about to begin (`Begun`). The measure is what is left of
--- the three. Assumes nothing.
+-- `search::search` meets its contract. Assumes nothing.
 use Prim.Native.Nat.{ℕ, suc, ◌≤◌}
 use mathlib.Core.Path.{◌≡◌, refl, ap, ◌∙◌}
 use native.Mathlib.Numerals.{add-one}

@@ -1,5 +1,5 @@
--- `search::search` meets its contract. The invariant: pass k, counted from 0, is about to begin (`Begun`). The measure is what is left of
--- the three. Assumes nothing.
+-- The loop's invariant: pass k, counted from 0, is about to begin (`Begun`). The measure is what is left of the three.
+-- Assumes nothing.
 use Prim.Native.Nat.{ℕ, suc, ◌-◌}
 use mathlib.Core.Path.{◌≡◌}
 use Rattle.pass.specs.Areas.{steps_in}

@@ -4,7 +4,8 @@ use mathlib.Core.Path.{◌∙◌}
 use native.Mathlib.Omega.{arith}
 use lib.Ieee.{nan}
 use Rattle.frame.proofs.Air.{header-most}
-use Rattle.steps.proofs.Laid.{copied, rows_more}
+use Rattle.steps.proofs.Laid.{rows_more}
+use Rattle.util.proofs.Copied.{laid}
 use Rattle.steps.proofs.rows.Goals as goal
 
 pub loop-j-preserved : goal.loop-j-preserved
@@ -13,6 +14,6 @@ loop-j-preserved c =
     let list = c.loop-j.list in
     let row = c.row-metrics in
     let inv = c.loop-j.invariant in
-    let here = copied nan 32 (32 * j) (32 * j + 32 - 32 * j) row.result c.copy_from_slice.new.self list (omega arith) c.copy_from_slice.ensures.after row.ensures.size
+    let here = laid nan 32 (32 * j) (32 * j + 32 - 32 * j) row.result c.copy_from_slice.new.self list (omega arith) c.copy_from_slice.ensures.after row.ensures.size
     (omega (arith, header-most c.args.kind)) in
     (inv.0, omega arith, here.size ∙ inv.2, rows_more c.args.mode c.args.kind c.args.terms.now inv.3 row.ensures here)

@@ -1,5 +1,4 @@
--- `symbol::log_sums` meets its contract. The invariant: the log-sums of those passed. The measure is what is left of the 32.
--- Assumes nothing.
+-- `symbol::log_sums` meets its contract. Assumes nothing.
 use mathlib.Core.Path.{refl}
 use native.Mathlib.Omega.{arith}
 use lib.Ieee.{of_bits, neg, div}

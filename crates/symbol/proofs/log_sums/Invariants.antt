@@ -1,5 +1,4 @@
--- `symbol::log_sums` meets its contract. The invariant: the log-sums of those passed. The measure is what is left of the 32.
--- Assumes nothing.
+-- The loop's invariant: the log-sums of those passed. The measure is what is left of the 32. Assumes nothing.
 use Prim.Native.Nat.{◌+◌, ◌-◌, ◌≤◌}
 use lib.Ieee.{nan}
 use lib.ListN.{get_or}

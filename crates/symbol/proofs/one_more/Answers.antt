@@ -1,5 +1,4 @@
--- `symbol::one_more` meets its contract. The invariant: the value is in the log-sums of the bits passed. The measure is what is left of the five.
--- Assumes nothing.
+-- `symbol::one_more` meets its contract. Assumes nothing.
 use Prim.Native.Nat.{ℕ, ◌+◌, ◌*◌}
 use mathlib.Core.Path.{ap, ◌∙◌, subst⁻¹}
 use native.Mathlib.Omega.{arith}

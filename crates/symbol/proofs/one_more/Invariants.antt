@@ -1,4 +1,4 @@
--- `symbol::one_more` meets its contract. The invariant: the value is in the log-sums of the bits passed. The measure is what is left of the five.
+-- The loop's invariant: the value is in the log-sums of the bits passed. The measure is what is left of the five.
 -- Assumes nothing.
 use Prim.Native.Nat.{◌+◌, ◌-◌, ◌≤◌}
 use mathlib.Core.Path.{◌≡◌}

@@ -1,23 +1,25 @@
--- `symbol::put_bits` meets its contract. The invariant: the soft bits passed are stored. The measure is what is left of the five.
+-- `symbol::put_bits` meets its contract: each soft bit was made by a call at its bit, and the row is copied over its places.
 -- Assumes nothing.
-use Prim.Native.Nat.{ℕ, ◌+◌, ◌*◌}
-use mathlib.Core.Bool.{true}
-use mathlib.Core.Path.{ap, ◌∙◌}
+use Rattle.std.proofs.Common.{rules, ◌≡◌, ℕ, ◌+◌, ◌*◌, ◌∙◌, ap, arith, true, ◌<◌}
 use native.Mathlib.Nat.{zero-add}
-use native.Mathlib.Omega.{arith}
 use lib.Ieee.{Float, nan}
 use lib.ListN.{get_or}
+use Rattle.util.proofs.Copied.{copied}
 use Rattle.symbol.proofs.Same.{soft-same}
 use Rattle.symbol.proofs.Sums.{soft-of}
 use Rattle.symbol.specs.Symbol.{soft_bit}
-use Rattle.util.proofs.Fill.{row_more}
+use Rattle.symbol.specs.Sums.{soft_from}
+use Rattle.util.proofs.Made.{made}
 use Rattle.symbol.proofs.put_bits.Goals as goal
 
-pub loop-k-preserved : goal.loop-k-preserved
-loop-k-preserved c =
+pub returns : goal.returns
+returns c =
     let a = c.args in
     let x : ℕ → Float = λ v. get_or a.values.now v nan in
-    let k = c.loop-k.k in
     let from : ℕ → Float = λ v. get_or a.values.now (0 + v) nan in
-    let e = c.soft_bit.ensures ∙ soft-of true from _ k (omega arith) c.log_sums-sums.ensures ∙ soft-same from x (λ v h. ap x (zero-add v)) true k in
-    (omega arith, row_more nan k (5 * a.i) (λ k. soft_bit true k x) a.slots.now c.loop-k.slots _ c.loop-k.invariant.1 (omega arith) e)
+    let sums = c.log_sums-sums in
+    let has : (k : ℕ) → k < 5 → soft_from sums.result k ≡ soft_bit true k x =
+    λ k h. soft-of true from _ k h sums.ensures ∙ soft-same from x (λ v h. ap x (zero-add v)) true k in
+    let row = c.from_fn-row in
+    let each : (v : ℕ) → v < 5 → get_or row.result v nan ≡ soft_bit true v x = λ v h. made _ _ (λ (k : ℕ) (y : Float). y ≡ soft_from sums.result k) _ (λ k y q l e. search rules) row.ensures.items v nan h ∙ has v h in
+    copied nan 5 (5 * a.i) (λ k. soft_bit true k x) _ row.result c.copy_from_slice.new.self a.slots.now (omega arith) c.copy_from_slice.ensures.after row.ensures.items.long (omega arith) each

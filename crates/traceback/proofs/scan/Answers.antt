@@ -1,4 +1,4 @@
--- `traceback::scan` meets its contract. The invariant: the states passed are considered. Assumes nothing.
+-- `traceback::scan` meets its contract. Assumes nothing.
 use mathlib.Core.Option.{Option}
 use mathlib.Core.Path.{refl, ap, ◌∙◌}
 use native.Mathlib.Numerals.{add-one}

@@ -1,4 +1,4 @@
--- `traceback::scan` meets its contract. The invariant: the states passed are considered. Assumes nothing.
+-- The loop's invariant: the states passed are considered. Assumes nothing.
 use Prim.Native.Nat.{◌≤◌}
 use mathlib.Core.Path.{◌≡◌}
 use Rattle.pass.specs.Areas.{table, packed}

@@ -1,4 +1,4 @@
--- `traceback::trace` meets its contract. The invariant: what is left to trace, below the word so far, makes up the whole (`Tracing`). Assumes nothing.
+-- `traceback::trace` meets its contract. Assumes nothing.
 use Prim.Native.Nat.{◌-◌}
 use mathlib.Core.Bool.{true, false}
 use mathlib.Core.Path.{◌≡◌}

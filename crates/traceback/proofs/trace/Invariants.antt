@@ -1,4 +1,4 @@
--- `traceback::trace` meets its contract. The invariant: what is left to trace, below the word so far, makes up the whole (`Tracing`). Assumes nothing.
+-- The loop's invariant: what is left to trace, below the word so far, makes up the whole (`Tracing`). Assumes nothing.
 use Prim.Native.Nat.{◌-◌, ◌^◌, ◌≤◌, ◌<◌}
 use Rattle.traceback.proofs.Tracing.{Tracing}
 use Rattle.pass.specs.Areas.{packed}

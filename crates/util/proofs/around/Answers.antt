@@ -1,5 +1,4 @@
--- `util::around` meets its contract. The invariant: the first that suits from the pair of d on is the first that suits at all.
--- The measure is what is left of the n pairs. Assumes nothing.
+-- `util::around` meets its contract. Assumes nothing.
 use Rattle.std.proofs.Common.{sym, ap, ◌∙◌, arith}
 use Rattle.util.specs.Multiplier.{suits}
 use Rattle.util.proofs.Tries.{none_left, upper, lower, both-fail}

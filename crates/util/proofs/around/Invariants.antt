@@ -1,5 +1,5 @@
--- `util::around` meets its contract. The invariant: the first that suits from the pair of d on is the first that suits at all.
--- The measure is what is left of the n pairs. Assumes nothing.
+-- The loop's invariant: the first that suits from the pair of d on is the first that suits at all. The measure is what
+-- is left of the n pairs. Assumes nothing.
 use Rattle.std.proofs.Common.{◌≡◌, ◌+◌, ◌-◌, ◌≤◌}
 use Rattle.util.specs.Multiplier.{pairs, suits, first_of}
 use Rattle.util.proofs.Tries.{left}

@@ -1,5 +1,4 @@
--- `util::gcd` meets its contract. The invariant: the two numbers of a turn have the greatest common divisor of the first two
--- (Euclid's step); where the second is 0 it is the first. The measure is the second. Assumes nothing.
+-- `util::gcd` meets its contract. Assumes nothing.
 use Rattle.std.proofs.Common.{sym, ap, ◌∙◌, arith}
 use Rattle.util.specs.Factor.{gcd_of}
 use Rattle.util.proofs.Common.{gcd-step, gcd-end}

@@ -1,5 +1,5 @@
--- `util::gcd` meets its contract. The invariant: the two numbers of a turn have the greatest common divisor of the first two
--- (Euclid's step); where the second is 0 it is the first. The measure is the second. Assumes nothing.
+-- The loop's invariant: the two numbers of a turn have the greatest common divisor of the first two (Euclid's step);
+-- where the second is 0 it is the first. The measure is the second. Assumes nothing.
 use Rattle.std.proofs.Common.{◌≡◌}
 use Rattle.util.specs.Factor.{gcd_of}
 use Rattle.util.proofs.gcd.Given as goal

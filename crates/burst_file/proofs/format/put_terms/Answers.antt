@@ -1,5 +1,4 @@
--- `burst_file::format::put_terms` meets its contract. The invariant: the places passed hold their floats. The measure is what is
--- left of the 260. Assumes nothing.
+-- `burst_file::format::put_terms` meets its contract. Assumes nothing.
 use Prim.Native.Nat.{◌*◌}
 use mathlib.Core.Path.{◌∙◌, ap}
 use native.Mathlib.Omega.{arith}

@@ -1,5 +1,4 @@
--- `burst_file::format::put_terms` meets its contract. The invariant: the places passed hold their floats. The measure is what is
--- left of the 260. Assumes nothing.
+-- The loop's invariant: the places passed hold their floats. The measure is what is left of the 260. Assumes nothing.
 use Prim.Native.Nat.{◌*◌, ◌-◌, ◌≤◌}
 use lib.Ieee.{nan}
 use Rattle.util.specs.Table.{Stored}

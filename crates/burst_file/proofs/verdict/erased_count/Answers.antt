@@ -1,5 +1,4 @@
--- `burst_file::verdict::erased_count` meets its contract. The invariant: the count is that of the places passed. The measure is
--- what is left of the list. Assumes nothing.
+-- `burst_file::verdict::erased_count` meets its contract. Assumes nothing.
 use Prim.Native.Nat.{ℕ, ◌+◌}
 use mathlib.Core.Bool.{Bool}
 use mathlib.Core.Path.{◌≡◌, refl, sym, ap, ap₂, ◌∙◌}

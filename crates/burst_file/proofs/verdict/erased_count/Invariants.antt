@@ -1,5 +1,5 @@
--- `burst_file::verdict::erased_count` meets its contract. The invariant: the count is that of the places passed. The measure is
--- what is left of the list. Assumes nothing.
+-- The loop's invariant: the count is that of the places passed. The measure is what is left of the list. Assumes
+-- nothing.
 use Prim.Native.Nat.{◌-◌, ◌≤◌}
 use mathlib.Core.Path.{◌≡◌}
 use lib.ListN.{length, get_or}

@@ -1,5 +1,4 @@
--- `burst_file::verdict::last_sixteen` meets its contract. The invariant: the sum is that of the bits passed, and small enough.
--- The measure is what is left of the 16. Assumes nothing.
+-- `burst_file::verdict::last_sixteen` meets its contract. Assumes nothing.
 use Prim.Native.Nat.{ℕ, ◌+◌, ◌*◌, ◌^◌, ◌≤◌}
 use mathlib.Core.Path.{◌≡◌, refl}
 use native.Mathlib.Omega.{arith}

@@ -1,5 +1,5 @@
--- `burst_file::verdict::last_sixteen` meets its contract. The invariant: the sum is that of the bits passed, and small enough.
--- The measure is what is left of the 16. Assumes nothing.
+-- The loop's invariant: the sum is that of the bits passed, and small enough. The measure is what is left of the 16.
+-- Assumes nothing.
 use Prim.Native.Nat.{◌+◌, ◌-◌, ◌*◌, ◌^◌, ◌≤◌}
 use mathlib.Core.Path.{◌≡◌}
 use lib.ListN.{get_or}

@@ -1,5 +1,4 @@
--- `burst_input::decimal::read` meets its contract. The invariant: the sum is the number of the digits passed, and what is left has a byte
--- that is no digit exactly where the whole has one. Assumes nothing.
+-- `burst_input::decimal::read` meets its contract. Assumes nothing.
 use Prim.Native.Nat.{ℕ, ◌+◌, ◌^◌, ◌≤◌, ◌<◌}
 use mathlib.Core.Logic.{⊎_elim}
 use mathlib.Core.Path.{◌≡◌, refl, sym, ap, subst, ◌∙◌}

@@ -1,5 +1,5 @@
--- `burst_input::decimal::read` meets its contract. The invariant: the sum is the number of the digits passed, and what is left has a byte
--- that is no digit exactly where the whole has one. Assumes nothing.
+-- The loop's invariant: the sum is the number of the digits passed, and what is left has a byte that is no digit
+-- exactly where the whole has one. Assumes nothing.
 use Rattle.std.proofs.Common.{◌^◌, ◌<◌, ◌≡◌, drop}
 use Rattle.util.specs.Some.{some_of}
 use Rattle.burst_input.specs.Decimal.{no_digit, number_of}
