@@ -2,7 +2,7 @@
 use crate::decimal;
 use say::arguments::put_argument;
 use std::env::Env;
-use std::io::{Stderr, Stdout, Write};
+use std::io::{Print, Stderr, Stdout};
 
 // What is asked of a burst.
 #[derive(Clone, Copy, Debug, PartialEq, Eq)]
@@ -147,12 +147,12 @@ pub fn help(to: Stdout, and: Stderr) {
 }
 
 // Inside: tells what is wrong with the arguments, and the usage.
-pub fn refuse<R: Env>(rt: &R, mut to: Stderr, misuse: Misuse) {
+pub fn refuse<R: Env>(rt: &R, to: Stderr, misuse: Misuse) {
     match misuse {
         Misuse::Unknown(i) => say::arguments::refuse(rt, to, "burst", i, USAGE),
         Misuse::Numbers => {
             let wanted = "START, a number to 18446744073709551615, and SEGMENT, one to 65535";
-            let _ = write!(to, "burst: slip wants {wanted}\n{USAGE}");
+            let _ = to.print(format_args!("burst: slip wants {wanted}\n{USAGE}"));
         }
     }
 }

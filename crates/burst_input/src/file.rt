@@ -5,7 +5,7 @@ use crate::problem::Failure;
 use burst_file::format::{Head, Problem};
 use std::env::{Env, FillError};
 use std::fs::Files;
-use std::io::{Error, Read, Stderr, Write};
+use std::io::{Cursor, Error, Read, Stderr, Write};
 use std::{fs, str};
 
 // The system's numbers of why a name names no file: no such argument, one of above 4,096 bytes, and bytes that are no text.
@@ -29,12 +29,16 @@ fn open<R: Files>(rt: &R, name: &[u8]) -> Result<R::File, Error> {
     }
 }
 
-fn opened_or_told<R: Files>(rt: &R, mut to: Stderr, name: &[u8]) -> Option<R::File> {
+fn opened_or_told<R: Files>(rt: &R, to: Stderr, name: &[u8]) -> Option<R::File> {
     match open(rt, name) {
         Ok(file) => Some(file),
         Err(error) => {
-            let _ = to.write_all(b"burst: ");
-            say::fail(to, name, &error);
+            // in one piece; a name has at most 4,096 bytes
+            let mut what = Cursor::new([0u8; 8192]);
+            let _ = what.write_all(b"burst: ");
+            let _ = what.write_all(name);
+            let n = (what.position() as usize).min(8192);
+            say::fail(to, &what.get_ref()[..n], &error);
             None
         }
     }

@@ -94,7 +94,11 @@ impl Mode {
     pub fn hop(self, i: u64) -> u64
         ensures { result ≡ hop_of (format_of (mode_number self)).bins i }
     {
-        crate::hop_among(self.bins(), i)
+        // by the constant of each mode, over which the remainder needs no division
+        match self {
+            Mode::R0 => crate::hop_among(R0::BINS, i),
+            Mode::R1 => crate::hop_among(R1::BINS, i),
+        }
     }
 
     // Inside: the mode that a number stands for where it may be any: 0 for R0, every other for R1.

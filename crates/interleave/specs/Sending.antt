@@ -25,7 +25,6 @@ sent_bits bits = placed (slots_for (length bits)) (scrambled_bit bits) (length b
 unfoldable pub sent_symbols : List ℕ → List ℕ
 sent_symbols symbols = placed (length symbols) (scrambled_symbol symbols) (length symbols) (replicate (length symbols) 0)
 
--- the answer's cases in the papers' words
 -- more than 10,240 bits; slots not n long; a byte above 1
 abbrev pub bit_causes : List ℕ → ℕ → List Cause
 bit_causes bits room =

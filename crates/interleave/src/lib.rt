@@ -14,7 +14,6 @@ ghost use Rattle.frame.specs.Air.{placed};
 ghost use Rattle.interleave.specs.Interleave.{symbols_of, scramble_of, sym_scramble_of, bit_back, sym_back};
 ghost use Rattle.interleave.specs.Sending.{bits_answer, slots_after, symbols_answer, values_after};
 
-use std::array;
 use util::refusal::Refusal;
 
 // Inside: how many symbols a burst has: five bits to each, the last one perhaps with fewer.
@@ -73,8 +72,9 @@ fn take_symbol(slots: &[f32], s: usize, r: u64, out: &mut [f32], p: usize)
     requires { (r < 32) × (32 * s + 32 ≤ length slots.now) × (32 * p + 32 ≤ length out.old) }
     ensures { Stored nan 32 (32 * p) (λ c. get_or slots.now (32 * s + bit_xor c r) nan) out.old out.new }
 {
-    let row: [f32; 32] = array::from_fn(|c| metric(slots, s, r, c));
-    out[32 * p..32 * p + 32].copy_from_slice(&row);
+    for (c, x) in out[32 * p..32 * p + 32].iter_mut().enumerate() {
+        *x = metric(slots, s, r, c);
+    }
 }
 
 // Inside: the metrics of n slots back in code-symbol order and code-symbol values.

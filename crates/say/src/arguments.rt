@@ -2,7 +2,7 @@
 ghost use Rattle.std.specs.Prelude.{◌≤◌, length, IfSome};
 
 use std::env::{Env, FillError};
-use std::io::{Stderr, Write};
+use std::io::{Cursor, Stderr, Write};
 
 // Inside: how many bytes of argument i are at the start of `word`: 0 where it is longer than that. None where there are not so many
 // arguments.
@@ -20,7 +20,11 @@ pub fn put_argument<R: Env>(rt: &R, i: usize, word: &mut [u8]) -> Option<usize>
 pub fn refuse<R: Env>(rt: &R, mut to: Stderr, program: &str, i: usize, usage: &str) {
     let mut word = io::buffer();
     let n = put_argument(rt, i, &mut word).unwrap_or(0);
-    let _ = write!(to, "{program}: unknown argument ");
-    let _ = to.write_all(&word[..n]);
-    let _ = write!(to, "\n{usage}");
+    // gathered and told in one call, so that no other program's words come between: the word has at most 4,096 bytes, a usage far fewer
+    let mut text = Cursor::new([0u8; 8192]);
+    let _ = write!(text, "{program}: unknown argument ");
+    let _ = text.write_all(&word[..n]);
+    let _ = write!(text, "\n{usage}");
+    let n = (text.position() as usize).min(8192);
+    let _ = to.write_all(&text.get_ref()[..n]);
 }
