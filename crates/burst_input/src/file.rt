@@ -33,7 +33,7 @@ fn opened_or_told<R: Files>(rt: &R, to: Stderr, name: &[u8]) -> Option<R::File> 
     match open(rt, name) {
         Ok(file) => Some(file),
         Err(error) => {
-            // in one piece; a name has at most 4,096 bytes
+            // the name with `burst: ` before it in one piece: it has at most 4,096 bytes
             let mut what = Cursor::new([0u8; 8192]);
             let _ = what.write_all(b"burst: ");
             let _ = what.write_all(name);

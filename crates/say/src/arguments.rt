@@ -20,7 +20,8 @@ pub fn put_argument<R: Env>(rt: &R, i: usize, word: &mut [u8]) -> Option<usize>
 pub fn refuse<R: Env>(rt: &R, mut to: Stderr, program: &str, i: usize, usage: &str) {
     let mut word = io::buffer();
     let n = put_argument(rt, i, &mut word).unwrap_or(0);
-    // gathered and told in one call, so that no other program's words come between: the word has at most 4,096 bytes, a usage far fewer
+    // gathered and told in one call, so that no other program's words come between; what goes beyond the 8,192 bytes would be cut, but the word has
+    // at most 4,096, and a usage far fewer
     let mut text = Cursor::new([0u8; 8192]);
     let _ = write!(text, "{program}: unknown argument ");
     let _ = text.write_all(&word[..n]);
